@@ -2,7 +2,6 @@
 pub mod Below
 pub mod Entries
 pub mod Kept
-
 -- Laws:
 pub mod EntryLaws
 pub mod Recency

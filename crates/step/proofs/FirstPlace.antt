@@ -15,7 +15,7 @@ use Rattle.theory.specs.OnePass.{carry, depth, depthFrom}
 use Rattle.kept.specs.Entries.{put, always}
 use Rattle.theory.specs.Cases.{by-cases}
 use Rattle.step.specs.declared.Carried.{Carried}
-use Rattle.step.specs.Stepped.{Carrying, Stepped}
+use Rattle.step.specs.Stepped.{Carrying, Placed}
 
 -- a page that is not there has depth 0, wherever counting starts
 depth-zero : (i j x : ℕ) (l : List ℕ) → depthFrom (suc i) x l ≡ 0 → depthFrom (suc j) x l ≡ 0
@@ -45,15 +45,35 @@ carry-length above i old y (z ∷ l) h =
     by-cases (eqb z old) (λ e. rw e)
     (λ e. rw (e, carry-length above (suc i) old (lower above y z) l (λ q. h (rw e q))))
 
+-- where it is not, there is one entry more than there are places
+carry-longer : (above : Priority) (i old y : ℕ) (l : List ℕ) → depthFrom (suc i) old l ≡ 0 → length (carry above old y l) ≡ suc (length l)
+unfolding depthFrom carry
+carry-longer above i old y [] h = refl
+carry-longer above i old y (z ∷ l) h =
+    by-cases (eqb z old) (λ e. absurd (omega (arith, rw e at h)))
+    (λ e. rw (e, carry-longer above (suc i) old (lower above y z) l (rw e at h)))
+
+pub put-length : (above : Priority) (old new : ℕ) (l : List ℕ) → (depth old l ≡ 0 → ⊥) → length (put above old new l) ≡ length l
+unfolding depthFrom put
+put-length above old new [] h = absurd (h refl)
+put-length above old new (y ∷ l) h =
+    by-cases (eqb y old) (λ e. rw e) (λ e. rw (e, carry-length above 1 old y l (λ q. h (rw e q))))
+
+pub put-longer : (above : Priority) (old new : ℕ) (l : List ℕ) → depth old l ≡ 0 → length (put above old new l) ≡ suc (length l)
+unfolding depthFrom put
+put-longer above old new [] h = refl
+put-longer above old new (y ∷ l) h =
+    by-cases (eqb y old) (λ e. absurd (omega (arith, rw e at h))) (λ e. rw (e, carry-longer above 1 old y l (rw e at h)))
+
 -- under LRU carrying begins with the entry itself, from place 1 on
 carry-put : (entry : ℕ) (l : List ℕ) → carry always entry entry l ≡ put always entry entry l
 unfolding carry put always
 carry-put entry [] = refl
 carry-put entry (y ∷ l) = by-cases (eqb y entry) (λ e. rw e) (λ e. rw e)
 
-pub shift-steps : {entry : ℕ} {before after : List ℕ} {r : Carried} → Carrying always entry entry before after r
-    → Stepped always entry entry before after r
-shift-steps {entry} {before} h =
+pub shift-places : {entry : ℕ} {before after : List ℕ} {r : Carried} → Carrying always entry entry before after r
+    → Placed always entry entry before after r
+shift-places {entry} {before} h =
     record {
       places = rw (← carry-put entry before) (h .places);
       depth-is = h .depth-is;
@@ -75,13 +95,13 @@ part-is : (y : ℕ) (l : List ℕ) → midOf 1 (length (y ∷ l) - 1) (y ∷ l) 
 part-is y l = rw (all-but-first y l, take-length l)
 
 module _ {above : Priority} {old new : ℕ} where
-  pub place-empty : (l : List ℕ) → length l ≡ 0 → Stepped above old new l l (record { depth = 0; last = new })
+  pub place-empty : (l : List ℕ) → length l ≡ 0 → Placed above old new l l (record { depth = 0; last = new })
   unfolding put depthFrom
   place-empty [] h = record { places = refl; depth-is = refl; last-is = refl }
   place-empty (y ∷ l) h = absurd (omega arith)
 
   pub place-first : (l : List ℕ) → 0 < length l → getD l 0 0 ≡ old
-      → Stepped above old new l (set l 0 new) (record { depth = 1; last = 0 })
+      → Placed above old new l (set l 0 new) (record { depth = 1; last = 0 })
   unfolding put depthFrom
   place-first [] h e = absurd (omega arith)
   place-first (y ∷ l) h e =
@@ -94,7 +114,7 @@ module _ {above : Priority} {old new : ℕ} where
   -- the list after place 1 is handed on as a part, and the old entry is not in it
   pub place-missing : (l after : List ℕ) (r : Carried) → 0 < length l → (getD l 0 0 ≡ old → ⊥)
       → Carrying above old (getD l 0 0) (midOf 1 (length l - 1) l) after r → r .depth ≡ 0
-      → Stepped above old new l (set (putMid 1 (length l - 1) l after) 0 new) (record { depth = 0; last = r .last })
+      → Placed above old new l (set (putMid 1 (length l - 1) l after) 0 new) (record { depth = 0; last = r .last })
   unfolding put depthFrom
   place-missing [] after r h n w d = absurd (omega arith)
   place-missing (y ∷ l) after r h n w d =
@@ -108,7 +128,7 @@ module _ {above : Priority} {old new : ℕ} where
   -- the old entry is in the part
   pub place-found : (l after : List ℕ) (r : Carried) → 0 < length l → (getD l 0 0 ≡ old → ⊥)
       → Carrying above old (getD l 0 0) (midOf 1 (length l - 1) l) after r → (r .depth ≡ 0 → ⊥)
-      → Stepped above old new l (set (putMid 1 (length l - 1) l after) 0 new) (record { depth = r .depth + 1; last = 0 })
+      → Placed above old new l (set (putMid 1 (length l - 1) l after) 0 new) (record { depth = r .depth + 1; last = 0 })
   unfolding put depthFrom
   place-found [] after r h n w d = absurd (omega arith)
   place-found (y ∷ l) after r h n w d =
