@@ -1,3 +1,4 @@
 pub mod Stepped
+pub mod PutLaws
 pub mod Running
 pub mod Shown
