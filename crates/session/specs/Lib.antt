@@ -8,3 +8,4 @@ pub mod TouchLaws
 pub mod SessionPolicies
 pub mod ReferLaws
 pub mod SessionLaws
+pub mod ReferAnswers
