@@ -2,6 +2,7 @@
 pub mod History
 pub mod Memory
 pub mod Answers
+pub mod Reads
 pub mod Touch
 pub mod StartLaws
 pub mod TouchLaws
@@ -9,3 +10,4 @@ pub mod SessionPolicies
 pub mod ReferLaws
 pub mod SessionLaws
 pub mod ReferAnswers
+pub mod ReadLaws

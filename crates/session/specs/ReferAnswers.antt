@@ -31,31 +31,31 @@ same-gives page e g =
             policy-is = g .value .policy-is;
             k-is = g .value .k-is;
             length-is = rw e (g .value .length-is);
-            references-are = rw e (g .value .references-are)
+            references-are = rw e (g .value .references-are);
           };
       list = record { places-are = rw e (g .list .places-are) };
       tallied = record { depths-are = rw e (g .tallied .depths-are) };
-      counted = record { counts-are = rw e (g .counted .counts-are) }
+      counted = record { counts-are = rw e (g .counted .counts-are) };
     }
 
 module _ {s : Session} {page : ℕ} {places depths counts : List ℕ} where
   pub refer-full : references ≤ s .references
       → Referring s page places depths counts places depths counts
-        (record { depth = answers.Refused (record { number = sessionFull; place = 0 }); session = s })
+      (record { depth = answers.Refused (record { number = sessionFull; place = 0 }); session = s })
   refer-full h =
       record {
         answer = λ policy k calls g. rw (le-leb references (length (acceptedOf calls)) (omega (arith, g .value .references-are)));
-        next = λ policy k calls g. same-gives page (accepted-full calls page (omega (arith, g .value .references-are))) g
+        next = λ policy k calls g. same-gives page (accepted-full calls page (omega (arith, g .value .references-are))) g;
       }
 
   pub refer-bad : s .references < references → pages ≤ page
       → Referring s page places depths counts places depths counts
-        (record { depth = answers.Refused (record { number = badPage; place = 0 }); session = s })
+      (record { depth = answers.Refused (record { number = badPage; place = 0 }); session = s })
   refer-bad h p =
       record {
         answer =
             λ policy k calls g. rw (lt-leb references (length (acceptedOf calls)) (omega (arith, g .value .references-are)), le-leb pages page p);
-        next = λ policy k calls g. same-gives page (accepted-bad calls page (omega (arith, g .value .references-are)) p) g
+        next = λ policy k calls g. same-gives page (accepted-bad calls page (omega (arith, g .value .references-are)) p) g;
       }
 
   module _ (room : s .references < references) (fine : page < pages) where
@@ -72,9 +72,12 @@ module _ {s : Session} {page : ℕ} {places depths counts : List ℕ} where
       refer-done =
           record {
             answer =
-                λ policy k calls g. rw (lt-leb references (length (acceptedOf calls)) (omega (arith, g .value .references-are)),
-                lt-leb pages page fine, refer-depth g page room fine (at-policy g));
-            next = λ policy k calls g. refer-gives g page room fine (at-policy g)
+                λ policy k calls g. rw (
+                  lt-leb references (length (acceptedOf calls)) (omega (arith, g .value .references-are)),
+                  lt-leb pages page fine,
+                  refer-depth g page room fine (at-policy g),
+                );
+            next = λ policy k calls g. refer-gives g page room fine (at-policy g);
           }
 
       -- the depth has its place in the table, and one more fits there

@@ -5,8 +5,13 @@ ghost use mathlib.Core.Path.{_≡_};
 ghost use Rattle.session.specs.Answers.{Starting, Referring};
 ghost use Rattle.session.specs.Memory.{Alive};
 
+mod reads;
 mod touch;
 
+pub use reads::hits;
+pub use reads::list;
+pub use reads::misses;
+pub use reads::references;
 use rules::BAD_LIMIT;
 use rules::BAD_PAGE;
 use rules::BAD_POLICY;
@@ -17,6 +22,7 @@ use rules::Page;
 use rules::REFERENCES;
 use rules::Refusal;
 use rules::SESSION_FULL;
+use step::DEPTHS;
 
 // The part of a session that is passed by value.
 pub struct Session {
@@ -42,14 +48,17 @@ pub struct Referenced {
     pub session: Session,
 }
 
+// The list that is shown: its length, and its pages in the order of places; places past the length read 0.
+pub struct Listing {
+    pub length: usize,
+    pub places: [Page; CAPACITIES],
+}
+
 // A number that was asked for.
 pub enum Asked {
     Number(usize),
     Refused(Refusal),
 }
-
-// A place for each depth from 0, which stands for "not in the list".
-pub const DEPTHS: usize = CAPACITIES + 1;
 
 // Starts a session under a policy with a list of `k` places, in tables of any content. A refused start gives no session and
 // leaves the tables as they are.
