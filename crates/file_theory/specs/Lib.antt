@@ -5,4 +5,6 @@ pub mod Decoding
 pub mod Promises
 pub mod Words
 pub mod Sections
+pub mod Scans
+pub mod Answers
 pub mod RoundTrip

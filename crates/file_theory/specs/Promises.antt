@@ -7,7 +7,7 @@ use Rattle.file_theory.specs.declared.Part.{Part}
 use Rattle.file_theory.specs.declared.Reading.{Reading}
 use Rattle.file_theory.specs.declared.Part.the-variants as Part
 use Rattle.file_theory.specs.declared.Reading.the-variants as Reading
-use Rattle.file_theory.specs.Decoding.{Outcome, says, refuses, Trace, referencesIn, traceIn}
+use Rattle.file_theory.specs.Decoding.{Outcome, says, refuses, Trace}
 
 -- F4: a table that took some values has them in front, and behind them what stood there
 abbrev pub overwritten : List ℕ → List ℕ → List ℕ
@@ -35,13 +35,13 @@ abbrev pub readingOf : Outcome Trace → Reading
 readingOf (says t) = Reading.Accepted (record { capacities = length (t .caps); references = length (t .refs) })
 readingOf (refuses r) = Reading.Refused r
 
--- the reference reader: the part, its table before, its answer, its table after
-pub record PartRead (part before : List ℕ) (answer : Part) (after : List ℕ) : Type 0 where
-  pub answered : answer ≡ partOf (referencesIn part)
-  pub table : after ≡ overwritten (valuesOf (referencesIn part)) before
+-- a reader of references: what the bytes are read as, its table before, its answer, its table after
+pub record PartRead (outcome : Outcome (List ℕ)) (before : List ℕ) (answer : Part) (after : List ℕ) : Type 0 where
+  pub answered : answer ≡ partOf outcome
+  pub table : after ≡ overwritten (valuesOf outcome) before
 
--- the file reader: the file, its two tables before, its answer, its two tables after
-pub record FileRead (file caps-before refs-before : List ℕ) (answer : Reading) (caps-after refs-after : List ℕ) : Type 0 where
-  pub answered : answer ≡ readingOf (traceIn file)
-  pub caps-table : caps-after ≡ overwritten (capsOf (traceIn file)) caps-before
-  pub refs-table : refs-after ≡ overwritten (refsOf (traceIn file)) refs-before
+-- a reader of files: what the file is read as, its two tables before, its answer, its two tables after
+pub record FileRead (outcome : Outcome Trace) (caps-before refs-before : List ℕ) (answer : Reading) (caps-after refs-after : List ℕ) : Type 0 where
+  pub answered : answer ≡ readingOf outcome
+  pub caps-table : caps-after ≡ overwritten (capsOf outcome) caps-before
+  pub refs-table : refs-after ≡ overwritten (refsOf outcome) refs-before

@@ -4,7 +4,7 @@ use mathlib.Core.Path.{_≡_, refl, sym, ap, _∙_}
 use mathlib.Core.Bool.{Bool, true, false, cond}
 use mathlib.Core.List.{List, [], _∷_, _++_}
 use native.Mathlib.Omega.{arith}
-use borrow.Author.Tests.{le-ltb, ltb-false}
+use borrow.Author.Tests.{le-ltb, lt-ltb, ltb-false}
 use lib.Dec.{ltb}
 use lib.ListN.{length, take, drop, length-append, take-append-drop}
 use lib.Seq.{drop-at}
@@ -91,3 +91,14 @@ section-again limit bytes n all f =
     ∙ ap {B = List ℕ} (λ t. t ++ behindSection n bytes) (bytesOf-numbers (suc n) bytes all whole)
     ∙ ap {B = List ℕ} (λ k. take k bytes ++ behindSection n bytes) e
     ∙ take-append-drop (sectionSize n) bytes
+
+-- which section it is, from the count as a reader has it
+module _ (limit : ℕ) (bytes : List ℕ) (n : ℕ) (long : 2 ≤ length bytes) (here : n ≡ numberAt bytes 0) where
+  pub is-over : limit < n → Over ≡ section limit bytes
+  is-over h = rw (le-ltb (length bytes) 2 long, ← here, lt-ltb limit n h)
+
+  pub is-cut : n ≤ limit → length bytes < sectionSize n → Cut ≡ section limit bytes
+  is-cut h l = rw (le-ltb (length bytes) 2 long, ← here, le-ltb limit n h, lt-ltb (length bytes) (sectionSize n) l)
+
+  pub is-whole : n ≤ limit → sectionSize n ≤ length bytes → Values n ≡ section limit bytes
+  is-whole h l = rw (le-ltb (length bytes) 2 long, ← here, le-ltb limit n h, le-ltb (length bytes) (sectionSize n) l)

@@ -1,11 +1,11 @@
 -- Laws of the numbers of a file (Format, Encoding): how many, which one stands at an index, and that writing numbers as bytes and reading bytes as numbers undo each other.
-use Prim.Native.Nat.{ℕ, zero, suc, _+_, _*_, _%_, _/_, _≤_, _<_}
+use Prim.Native.Nat.{ℕ, zero, suc, _+_, _-_, _*_, _%_, _/_, _≤_, _<_}
 use mathlib.Core.Path.{_≡_, refl, sym, ap, ap₂, _∙_}
 use mathlib.Core.List.{List, [], _∷_, _++_}
 use native.Mathlib.Nat.{div-add-mod, zero-add, not-suc-le-zero, le-of-suc-le-suc}
 use native.Mathlib.Omega.{arith}
-use lib.ListN.{length, getD, take, drop}
-use lib.Seq.{getD-drop, getD-take, drop-drop}
+use lib.ListN.{length, getD, take, drop, length-drop}
+use lib.Seq.{getD-drop, take-all}
 use Rattle.file_theory.specs.Format.{numberAt, numbers}
 use Rattle.file_theory.specs.Encoding.{bytesOf}
 
@@ -80,3 +80,7 @@ bytesOf-numbers (suc n) (a ∷ b ∷ bytes) all h =
     let eb : (a + 256 * b) / 256 ≡ b = omega arith in
     let e : 2 * suc n ≡ suc (suc (2 * n)) = omega arith in
     rw (ea, eb, e, bytesOf-numbers n bytes (λ i. all (suc (suc i))) (omega arith))
+
+-- F3: a part that runs to the end of the file is all that stands from its start
+pub to-the-end : (at : ℕ) (bytes : List ℕ) → take (length bytes - at) (drop at bytes) ≡ drop at bytes
+to-the-end at bytes = take-all (length bytes - at) (drop at bytes) (omega (arith, length-drop at bytes))

@@ -1,0 +1,120 @@
+-- Laws of the promises: what each way through a reader shows of its answer and its tables.
+use Prim.Native.Nat.{ℕ, _-_, _≤_, _<_}
+use mathlib.Core.Path.{_≡_, refl, sym, ap, _∙_}
+use mathlib.Core.Bool.{true, false}
+use mathlib.Core.List.{List, [], _++_}
+use native.Mathlib.Omega.{arith}
+use borrow.Author.Tests.{le-ltb, lt-ltb}
+use lib.ListN.{length, take, drop}
+use Rattle.rules.specs.Limits.{capacities, references}
+use Rattle.rules.specs.Refusals.{firstBadPage, cutFile, tooManyReferences, badCapacities, bytesLeft}
+use Rattle.rules.specs.declared.Refusal.{Refusal}
+use Rattle.rules.specs.declared.Answer.{Answer}
+use Rattle.rules.specs.declared.Answer.the-variants.{Accepted, Refused}
+use Rattle.file_theory.specs.declared.Section.{Section}
+use Rattle.file_theory.specs.declared.Section.the-variants.{Cut, Over, Values}
+use Rattle.file_theory.specs.declared.Part.{Part}
+use Rattle.file_theory.specs.declared.Reading.{Reading}
+use Rattle.file_theory.specs.declared.Part.the-variants as Part
+use Rattle.file_theory.specs.declared.Reading.the-variants as Reading
+use Rattle.file_theory.specs.Format.{sectionSize, sectionValues, behindSection}
+use Rattle.file_theory.specs.Decoding.{Outcome, says, refuses, section, rising, pagesOf, referencesIn, Trace, withCapacities, traceBehind, traceIn}
+use Rattle.file_theory.specs.Promises.{overwritten, valuesOf, capsOf, refsOf, partOf, readingOf, PartRead, FileRead}
+use Rattle.file_theory.specs.Words.{length-numbers, to-the-end}
+
+-- a refusal with no place of its own
+abbrev pub plain : ℕ → Refusal
+plain number = record { number = number; place = 0 }
+
+-- the references of a section that is whole
+module _ (part : List ℕ) (n : ℕ) (table : List ℕ) where
+  pub bytes-left : sectionSize n < length part → PartRead (pagesOf part n) table (Part.Refused (plain bytesLeft)) table
+  unfolding pagesOf
+  bytes-left more = rw (lt-ltb (sectionSize n) (length part) more) (record { answered = refl; table = refl })
+
+  pub page-refused : (r : Refusal) → length part ≤ sectionSize n → Refused r ≡ firstBadPage 0 (sectionValues n part) Accepted
+      → PartRead (pagesOf part n) table (Part.Refused r) table
+  unfolding pagesOf
+  page-refused r none bad = rw (le-ltb (sectionSize n) (length part) none, ← bad) (record { answered = refl; table = refl })
+
+  pub pages-taken : (after : List ℕ) → length part ≤ sectionSize n → Accepted ≡ firstBadPage 0 (sectionValues n part) Accepted
+      → after ≡ overwritten (sectionValues n part) table
+      → PartRead (pagesOf part n) table (Part.References n) after
+  unfolding pagesOf
+  pages-taken after none good copied =
+      rw (le-ltb (sectionSize n) (length part) none, ← good)
+      (record { answered = rw (length-numbers n (drop 2 part)); table = copied })
+
+-- the part that starts at the reference section
+module _ (part table : List ℕ) where
+  pub part-cut : Cut ≡ section references part → PartRead (referencesIn part) table (Part.Refused (plain cutFile)) table
+  unfolding referencesIn
+  part-cut e = rw (← e) (record { answered = refl; table = refl })
+
+  pub part-over : Over ≡ section references part → PartRead (referencesIn part) table (Part.Refused (plain tooManyReferences)) table
+  unfolding referencesIn
+  part-over e = rw (← e) (record { answered = refl; table = refl })
+
+  pub part-whole : (n : ℕ) (answer : Part) (after : List ℕ) → Values n ≡ section references part
+      → PartRead (pagesOf part n) table answer after → PartRead (referencesIn part) table answer after
+  unfolding referencesIn
+  part-whole n answer after e p = rw (← e) p
+
+-- F3: the part handed on runs to the end of the file, and its answer is looked at by its cases
+pub handed-on : (file : List ℕ) (n : ℕ) (before : List ℕ) {answer case : Part} {after : List ℕ}
+    → PartRead (referencesIn (take (length file - sectionSize n) (behindSection n file))) before answer after
+    → answer ≡ case → PartRead (referencesIn (behindSection n file)) before case after
+handed-on file n before p e = rw (to-the-end (sectionSize n) file, e) at p
+
+-- what stands behind capacities that keep the rules
+module _ (file : List ℕ) (n : ℕ) (caps refs : List ℕ) where
+  pub not-rising : rising 0 (sectionValues n file) ≡ false → FileRead (traceBehind file n) caps refs (Reading.Refused (plain badCapacities)) caps refs
+  unfolding traceBehind
+  not-rising e = rw e (record { answered = refl; caps-table = refl; refs-table = refl })
+
+  pub behind-refused : (r : Refusal) (after : List ℕ) → rising 0 (sectionValues n file) ≡ true
+      → PartRead (referencesIn (behindSection n file)) refs (Part.Refused r) after
+      → FileRead (traceBehind file n) caps refs (Reading.Refused r) caps after
+  unfolding traceBehind
+  behind-refused r after e p = rw e (passed (referencesIn (behindSection n file)) (p .answered) (p .table))
+    where
+      passed : (o : Outcome (List ℕ)) → Part.Refused r ≡ partOf o → after ≡ overwritten (valuesOf o) refs
+          → FileRead (withCapacities (sectionValues n file) o) caps refs (Reading.Refused r) caps after
+      passed (says rs) a t = absurd (let z : _≡_ {A = ℕ} 0 1 = cc in let w : ⊥ = omega arith in w)
+      passed (refuses x) a t = record { answered = ap Reading.Refused (let q : r ≡ x = cc in q); caps-table = refl; refs-table = t }
+
+  pub behind-read : (m : ℕ) (caps-after after : List ℕ) → rising 0 (sectionValues n file) ≡ true
+      → PartRead (referencesIn (behindSection n file)) refs (Part.References m) after
+      → caps-after ≡ overwritten (sectionValues n file) caps
+      → FileRead (traceBehind file n) caps refs (Reading.Accepted (record { capacities = n; references = m })) caps-after after
+  unfolding traceBehind
+  behind-read m caps-after after e p copied = rw e (passed (referencesIn (behindSection n file)) (p .answered) (p .table))
+    where
+      passed : (o : Outcome (List ℕ)) → Part.References m ≡ partOf o → after ≡ overwritten (valuesOf o) refs
+          → FileRead (withCapacities (sectionValues n file) o) caps refs (Reading.Accepted (record { capacities = n; references = m })) caps-after after
+      passed (says rs) a t =
+          let q : m ≡ length rs = cc in
+          record { answered = rw (q, length-numbers n (drop 2 file)); caps-table = copied; refs-table = t }
+      passed (refuses x) a t = absurd (let z : _≡_ {A = ℕ} 0 1 = cc in let w : ⊥ = omega arith in w)
+
+-- the whole file
+module _ (file caps refs : List ℕ) where
+  pub file-cut : Cut ≡ section capacities file → FileRead (traceIn file) caps refs (Reading.Refused (plain cutFile)) caps refs
+  unfolding traceIn
+  file-cut e = rw (← e) (record { answered = refl; caps-table = refl; refs-table = refl })
+
+  pub file-over : Over ≡ section capacities file → FileRead (traceIn file) caps refs (Reading.Refused (plain badCapacities)) caps refs
+  unfolding traceIn
+  file-over e = rw (← e) (record { answered = refl; caps-table = refl; refs-table = refl })
+
+  pub file-whole : (n : ℕ) (answer : Reading) (caps-after after : List ℕ) → Values n ≡ section capacities file
+      → FileRead (traceBehind file n) caps refs answer caps-after after → FileRead (traceIn file) caps refs answer caps-after after
+  unfolding traceIn
+  file-whole n answer caps-after after e p = rw (← e) p
+
+-- two answers that both meet a promise are equal, and so are the tables they leave
+pub part-read-once : {o : Outcome (List ℕ)} {before : List ℕ} {a b : Part} {x y : List ℕ} → PartRead o before a x → PartRead o before b y → (a ≡ b) × (x ≡ y)
+part-read-once p q = (p .answered ∙ sym (q .answered), p .table ∙ sym (q .table))
+
+pub file-read-once : {o : Outcome Trace} {caps refs : List ℕ} {a b : Reading} {x y u v : List ℕ} → FileRead o caps refs a x u → FileRead o caps refs b y v → (a ≡ b) × (x ≡ y) × (u ≡ v)
+file-read-once p q = (p .answered ∙ sym (q .answered), p .caps-table ∙ sym (q .caps-table), p .refs-table ∙ sym (q .refs-table))
