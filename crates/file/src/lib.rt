@@ -18,12 +18,13 @@ use rules::Refusal;
 use rules::TOO_MANY_REFERENCES;
 ghost use mathlib.Core.Path.{_≡_};
 ghost use Prim.Native.Nat.{_+_, _≤_, _<_};
+ghost use lib.Dec.{ltb};
 ghost use lib.ListN.{length};
 ghost use Rattle.rules.specs.Limits.{capacities as capacityLimit, references as referenceLimit};
-ghost use Rattle.rules.specs.Refusals.{firstBadPage};
+ghost use Rattle.rules.specs.Refusals.{refuseIf, firstBadPage, bytesLeft};
 ghost use Rattle.rules.specs.declared.Answer.the-variants.{Accepted};
 ghost use Rattle.file_theory.specs.Format.{numberAt, sectionSize, sectionValues};
-ghost use Rattle.file_theory.specs.Decoding.{section as sectionOf, rising as risingOf, pagesOf, referencesIn, traceBehind, traceIn};
+ghost use Rattle.file_theory.specs.Decoding.{section as sectionOf, rising as risingOf, firstOf, pagesOf, referencesIn, traceBehind, traceIn};
 ghost use Rattle.file_theory.specs.Promises.{overwritten, PartRead, FileRead};
 ghost use Rattle.file_theory.specs.Sections.{Found};
 
@@ -32,7 +33,9 @@ fn number_at(bytes: &[u8], i: usize) -> u16
     requires { ⌜ i + 1 < length (now bytes) ⌝ }
     ensures { λ r. ⌜ r ≡ numberAt (now (bytes .entry)) i ⌝ }
 {
-    bytes[i] as u16 + 256 * (bytes[i + 1] as u16)
+    let low = bytes[i] as u16;
+    let high = bytes[i + 1] as u16;
+    low + 256 * high
 }
 
 // The section that the bytes start with: its count within the limit and its values there.
@@ -101,19 +104,37 @@ fn copy_values(bytes: &[u8], n: usize, table: &mut [u16])
     }
 }
 
+// Do bytes remain behind the section's n values?
+fn bytes_left(part: &[u8], n: usize) -> Answer
+    requires { ⌜ sectionSize n ≤ length (now part) ⌝ }
+    ensures { λ r. ⌜ r ≡ refuseIf (ltb (sectionSize n) (length (now (part .entry)))) bytesLeft Accepted ⌝ }
+{
+    if 2 + 2 * n < part.len() {
+        rules::refuse(BYTES_LEFT, 0)
+    } else {
+        Answer::Accepted
+    }
+}
+
+// Of two refusals that apply, the first is given (rule A2).
+fn first_refusal(first: Answer, next: Answer) -> Answer
+    ensures { λ r. ⌜ r ≡ firstOf first next ⌝ }
+{
+    match first {
+        Answer::Refused(r) => Answer::Refused(r),
+        Answer::Accepted => next,
+    }
+}
+
 // The n references of a section that was found whole, with nothing behind it and no bad page among them.
 fn take_references(part: &[u8], n: usize, table: &mut [u16; REFERENCES]) -> Part
     requires { ⌜ Found referenceLimit (now part) n ⌝ }
     ensures { λ r. ⌜ PartRead (pagesOf (now (part .entry)) n) (now (table .entry)) r (now (table .exit)) ⌝ }
 {
-    if 2 + 2 * n < part.len() {
-        return Part::Refused(Refusal {
-            number: BYTES_LEFT,
-            place: 0,
-        });
-    }
+    let left = bytes_left(part, n);
     let bad = first_bad_page(part, n);
-    match bad {
+    let found = first_refusal(left, bad);
+    match found {
         Answer::Refused(r) => Part::Refused(r),
         Answer::Accepted => {
             copy_values(part, n, table);

@@ -1,13 +1,13 @@
 -- Laws of the promises: what each way through a reader shows of its answer and its tables.
-use Prim.Native.Nat.{ℕ, _-_, _≤_, _<_}
+use Prim.Native.Nat.{ℕ, _-_}
 use mathlib.Core.Path.{_≡_, refl, sym, ap, _∙_}
-use mathlib.Core.Bool.{true, false}
+use mathlib.Core.Bool.{Bool, true, false}
 use mathlib.Core.List.{List, [], _++_}
 use native.Mathlib.Omega.{arith}
-use borrow.Author.Tests.{le-ltb, lt-ltb}
+use lib.Dec.{ltb}
 use lib.ListN.{length, take, drop}
 use Rattle.rules.specs.Limits.{capacities, references}
-use Rattle.rules.specs.Refusals.{firstBadPage, cutFile, tooManyReferences, badCapacities, bytesLeft}
+use Rattle.rules.specs.Refusals.{refuseIf, firstBadPage, cutFile, tooManyReferences, badCapacities, bytesLeft}
 use Rattle.rules.specs.declared.Refusal.{Refusal}
 use Rattle.rules.specs.declared.Answer.{Answer}
 use Rattle.rules.specs.declared.Answer.the-variants.{Accepted, Refused}
@@ -18,7 +18,7 @@ use Rattle.file_theory.specs.declared.Reading.{Reading}
 use Rattle.file_theory.specs.declared.Part.the-variants as Part
 use Rattle.file_theory.specs.declared.Reading.the-variants as Reading
 use Rattle.file_theory.specs.Format.{sectionSize, sectionValues, behindSection}
-use Rattle.file_theory.specs.Decoding.{Outcome, says, refuses, section, rising, pagesOf, referencesIn, Trace, withCapacities, traceBehind, traceIn}
+use Rattle.file_theory.specs.Decoding.{Outcome, says, refuses, section, rising, firstOf, pagesAnswer, pagesOf, referencesIn, Trace, withCapacities, traceBehind, traceIn}
 use Rattle.file_theory.specs.Promises.{overwritten, valuesOf, capsOf, refsOf, partOf, readingOf, PartRead, FileRead}
 use Rattle.file_theory.specs.Words.{length-numbers, to-the-end}
 
@@ -26,24 +26,27 @@ use Rattle.file_theory.specs.Words.{length-numbers, to-the-end}
 abbrev pub plain : ℕ → Refusal
 plain number = record { number = number; place = 0 }
 
--- the references of a section that is whole
-module _ (part : List ℕ) (n : ℕ) (table : List ℕ) where
-  pub bytes-left : sectionSize n < length part → PartRead (pagesOf part n) table (Part.Refused (plain bytesLeft)) table
-  unfolding pagesOf
-  bytes-left more = rw (lt-ltb (sectionSize n) (length part) more) (record { answered = refl; table = refl })
+-- the references of a section that is whole: the two checks in their order are the order of refusals
+module _ (part : List ℕ) (n : ℕ) where
+  pub in-order : {left bad answer : Answer} → answer ≡ firstOf left bad
+      → left ≡ refuseIf (ltb (sectionSize n) (length part)) bytesLeft Accepted
+      → bad ≡ firstBadPage 0 (sectionValues n part) Accepted
+      → answer ≡ pagesAnswer part n
+  unfolding pagesAnswer
+  in-order e l b = e ∙ rw (l, b) (joined (ltb (sectionSize n) (length part)) (firstBadPage 0 (sectionValues n part) Accepted))
+    where
+      joined : (more : Bool) (rest : Answer) → firstOf (refuseIf more bytesLeft Accepted) rest ≡ refuseIf more bytesLeft rest
+      joined true rest = refl
+      joined false rest = refl
 
-  pub page-refused : (r : Refusal) → length part ≤ sectionSize n → Refused r ≡ firstBadPage 0 (sectionValues n part) Accepted
-      → PartRead (pagesOf part n) table (Part.Refused r) table
+  pub pages-refused : (table : List ℕ) (r : Refusal) → Refused r ≡ pagesAnswer part n → PartRead (pagesOf part n) table (Part.Refused r) table
   unfolding pagesOf
-  page-refused r none bad = rw (le-ltb (sectionSize n) (length part) none, ← bad) (record { answered = refl; table = refl })
+  pages-refused table r e = rw (← e) (record { answered = refl; table = refl })
 
-  pub pages-taken : (after : List ℕ) → length part ≤ sectionSize n → Accepted ≡ firstBadPage 0 (sectionValues n part) Accepted
-      → after ≡ overwritten (sectionValues n part) table
+  pub pages-taken : (table after : List ℕ) → Accepted ≡ pagesAnswer part n → after ≡ overwritten (sectionValues n part) table
       → PartRead (pagesOf part n) table (Part.References n) after
   unfolding pagesOf
-  pages-taken after none good copied =
-      rw (le-ltb (sectionSize n) (length part) none, ← good)
-      (record { answered = rw (length-numbers n (drop 2 part)); table = copied })
+  pages-taken table after e copied = rw (← e) (record { answered = rw (length-numbers n (drop 2 part)); table = copied })
 
 -- the part that starts at the reference section
 module _ (part table : List ℕ) where

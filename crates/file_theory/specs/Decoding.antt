@@ -34,18 +34,24 @@ unfoldable pub rising : ℕ → List ℕ → Bool
 rising before [] = true
 rising before (c ∷ cs) = isCapacity c && (ltb before c && rising c cs)
 
+-- A2: of two answers the first that refuses
+abbrev pub firstOf : Answer → Answer → Answer
+firstOf Accepted next = next
+firstOf (Refused r) next = Refused r
+
 -- an order of refusals, then the values that no rule refuses
 abbrev pub unless : {A : Type 0} → Answer → A → Outcome A
 unless Accepted values = says values
 unless (Refused r) values = refuses r
 
 -- O5, after both sections: bytes that remain (10), then the first bad reference (3)
+unfoldable pub pagesAnswer : List ℕ → ℕ → Answer
+pagesAnswer part n =
+    refuseIf (ltb (sectionSize n) (length part)) bytesLeft
+    (firstBadPage 0 (sectionValues n part) Accepted)
+
 unfoldable pub pagesOf : List ℕ → ℕ → Outcome (List ℕ)
-pagesOf part n =
-    unless
-    (refuseIf (ltb (sectionSize n) (length part)) bytesLeft
-    (firstBadPage 0 (sectionValues n part) Accepted))
-    (sectionValues n part)
+pagesOf part n = unless (pagesAnswer part n) (sectionValues n part)
 
 abbrev pub referencesOf : List ℕ → Section → Outcome (List ℕ)
 referencesOf part Cut = refuses′ cutFile

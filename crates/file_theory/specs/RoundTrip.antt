@@ -17,7 +17,7 @@ use Rattle.file_theory.specs.declared.Section.{Section}
 use Rattle.file_theory.specs.declared.Section.the-variants.{Cut, Over, Values}
 use Rattle.file_theory.specs.Format.{numberAt, numbers, sectionSize, sectionValues, behindSection}
 use Rattle.file_theory.specs.Encoding.{bytesOf, encodeSection, encode}
-use Rattle.file_theory.specs.Decoding.{Outcome, says, refuses, refuses′, section, rising, unless, pagesOf, referencesOf, referencesIn, Trace, withCapacities, traceBehind, traceOf, traceIn}
+use Rattle.file_theory.specs.Decoding.{Outcome, says, refuses, refuses′, section, rising, unless, pagesAnswer, pagesOf, referencesOf, referencesIn, Trace, withCapacities, traceBehind, traceOf, traceIn}
 use Rattle.file_theory.specs.Words.{Bytes, bytes-drop, length-numbers, length-bytesOf}
 use Rattle.file_theory.specs.Sections.{split, Found, found, section-encoded, values-encoded, behind-encoded, section-again}
 
@@ -37,7 +37,7 @@ unfolding bytesOf
 nothing-left rs = le-ltb (sectionSize (length rs)) (length (encodeSection rs)) (omega (arith, length-bytesOf rs))
 
 references-back : (rs : List ℕ) → GoodReferences rs → referencesIn (encodeSection rs) ≡ says rs
-unfolding referencesIn pagesOf
+unfolding referencesIn pagesAnswer pagesOf
 references-back rs g =
     let s : section references (encodeSection rs) ≡ Values (length rs) = rw append-nil at (section-encoded rs [] references (g .few)) in
     let v : sectionValues (length rs) (encodeSection rs) ≡ rs = rw append-nil at (values-encoded rs []) in
@@ -60,7 +60,7 @@ refuses≢ : {A : Type 0} (r : Refusal) (a : A) → refuses r ≡ says a → ⊥
 refuses≢ r a e = let z : _≡_ {A = ℕ} 0 1 = cc in omega arith
 
 part-says : (part rs : List ℕ) → referencesIn part ≡ says rs → PartSays part rs
-unfolding referencesIn pagesOf
+unfolding referencesIn pagesAnswer pagesOf
 part-says part rs = go (section references part) refl
   where
     ended : (n : ℕ) → Found references part n → ltb (sectionSize n) (length part) ≡ false → Bytes part → encodeSection (sectionValues n part) ≡ part

@@ -37,7 +37,7 @@ returns c =
     let at-loop = c .before .before .before .before in
     let a = at-loop .before .before .args in
     c .refuse .ensures
-    ∙ sym (at-loop .loop .inv .1 ∙ bad-page (a .n) (a .bytes .now) (at-loop .loop .i) (c .before .before .number-at .result) (c .before .before .before .loop-test .taken) (c .before .before .number-at .ensures) (c .before .if1 .taken))
+    ∙ sym (at-loop .loop .inv .1 ∙ bad-page (a .n) (a .bytes .now) (at-loop .loop .i) (c .before .before .number-at .result) (c .before .before .before .loop-test .taken) (c .before .before .number-at .ensures) (omega arith))
 
 add-i : tie.Need-add-i Inv-loop μ-loop
 add-i c = omega arith
@@ -50,7 +50,7 @@ loop-again c =
     let at-loop = c .before .before .before in
     let a = at-loop .before .before .args in (
       omega arith,
-      at-loop .loop .inv .1 ∙ good-page (a .n) (a .bytes .now) (at-loop .loop .i) (c .before .number-at .result) (c .before .before .loop-test .taken) (c .before .number-at .ensures) (c .if1 .left),
+      at-loop .loop .inv .1 ∙ good-page (a .n) (a .bytes .now) (at-loop .loop .i) (c .before .number-at .result) (c .before .before .loop-test .taken) (c .before .number-at .ensures) (omega arith),
     )
 
 returns-2 : tie.Need-returns-2 Inv-loop μ-loop

@@ -35,13 +35,13 @@ returns : tie.Need-returns Inv-loop μ-loop
 returns c =
     let at-loop = c .before .before .before in
     let a = at-loop .before .before .args in
-    sym (at-loop .loop .inv .1 ∙ not-above (a .n) (a .bytes .now) (at-loop .loop .i) (at-loop .loop .before) (c .before .number-at .result) (c .before .before .loop-test .taken) (c .before .number-at .ensures) (c .if1 .taken))
+    sym (at-loop .loop .inv .1 ∙ not-above (a .n) (a .bytes .now) (at-loop .loop .i) (at-loop .loop .before) (c .before .number-at .result) (c .before .before .loop-test .taken) (c .before .number-at .ensures) (omega arith))
 
 returns-2 : tie.Need-returns-2 Inv-loop μ-loop
 returns-2 c =
     let at-loop = c .before .before .before .before in
     let a = at-loop .before .before .args in
-    sym (at-loop .loop .inv .1 ∙ above-limit (a .n) (a .bytes .now) (at-loop .loop .i) (at-loop .loop .before) (c .before .before .number-at .result) (c .before .before .before .loop-test .taken) (c .before .before .number-at .ensures) (c .if2 .taken))
+    sym (at-loop .loop .inv .1 ∙ above-limit (a .n) (a .bytes .now) (at-loop .loop .i) (at-loop .loop .before) (c .before .before .number-at .result) (c .before .before .before .loop-test .taken) (c .before .before .number-at .ensures) (omega arith))
 
 add-i : tie.Need-add-i Inv-loop μ-loop
 add-i c = omega arith
@@ -54,7 +54,7 @@ loop-again c =
     let at-loop = c .before .before .before .before in
     let a = at-loop .before .before .args in (
       omega arith,
-      at-loop .loop .inv .1 ∙ risen (a .n) (a .bytes .now) (at-loop .loop .i) (at-loop .loop .before) (c .before .before .number-at .result) (c .before .before .before .loop-test .taken) (c .before .before .number-at .ensures) (c .before .if1 .left) (c .if2 .left),
+      at-loop .loop .inv .1 ∙ risen (a .n) (a .bytes .now) (at-loop .loop .i) (at-loop .loop .before) (c .before .before .number-at .result) (c .before .before .before .loop-test .taken) (c .before .before .number-at .ensures) (omega arith) (omega arith),
     )
 
 returns-3 : tie.Need-returns-3 Inv-loop μ-loop
