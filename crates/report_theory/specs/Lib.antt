@@ -1,0 +1,6 @@
+-- The report as a definition of the file's bytes, for any count of hits; then the laws of decimal numbers and of writing into a buffer.
+pub mod Text
+pub mod Report
+pub mod Buffer
+pub mod Decimals
+pub mod Lines
