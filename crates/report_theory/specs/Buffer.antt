@@ -1,12 +1,12 @@
 -- Writing text into a buffer: what the buffer holds after it, and that two texts written one after the other are one text.
-use Prim.Native.Nat.{ℕ, suc, _+_, _≤_, _<_}
-use mathlib.Core.Path.{_≡_, refl, sym, ap, _∙_}
+use Prim.Native.Nat.{ℕ, _+_, _≤_, _<_}
+use mathlib.Core.Path.{_≡_, sym, ap, _∙_}
 use mathlib.Core.List.{List, [], _∷_, _++_, append-assoc}
-use native.Mathlib.Nat.{zero-add, add-assoc, add-zero}
+use native.Mathlib.Nat.{zero-add, add-zero}
 use native.Mathlib.Numerals.{add-one}
 use native.Mathlib.Omega.{arith}
-use lib.ListN.{length, take, drop, set, length-append, length-drop, take-append-drop}
-use lib.Seq.{set-split, length-take-le, take-append-add, drop-append-add, take-all, take-at, drop-at, drop-drop}
+use lib.ListN.{length, getD, take, drop, set, length-append, length-drop, take-append-drop}
+use lib.Seq.{set-split, length-take-le, take-suc, take-at, drop-at, drop-drop}
 
 -- the buffer with some text from a place on
 unfoldable pub put : ℕ → List ℕ → List ℕ → List ℕ
@@ -51,6 +51,17 @@ put-put at s t buffer fits =
     rw (cut, first, behind, drop-drop (length t) (at + length s) buffer, e)
     (append-assoc (take at buffer) s (t ++ drop (at + length (s ++ t)) buffer)
     ∙ ap {B = List ℕ} (λ u. take at buffer ++ u) (sym (append-assoc s t (drop (at + length (s ++ t)) buffer))))
+
+-- a text that is written byte by byte
+pub put-more : (at : ℕ) (text buffer : List ℕ) (i : ℕ) → i < length text → at + length text ≤ length buffer
+    → set (put at (take i text) buffer) (at + i) (getD text i 0) ≡ put at (take (i + 1) text) buffer
+put-more at text buffer i h fits =
+    let l : length (take i text) ≡ i = length-take-le i text (omega arith) in
+    let room : at + length (take i text) ≤ length buffer = omega arith in
+    let e : at + length (take i text) ≡ at + i = omega arith in
+    rw (add-one i, take-suc text i 0 h, ← e)
+    (put-byte (at + length (take i text)) (getD text i 0) (put at (take i text) buffer) (omega (arith, length-put at (take i text) buffer room))
+    ∙ put-put at (take i text) (getD text i 0 ∷ []) buffer room)
 
 -- the same for two calls
 pub then : {at next last : ℕ} {s t before between after : List ℕ} → at + length s ≤ length before

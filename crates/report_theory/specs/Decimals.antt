@@ -31,6 +31,12 @@ pub decimal-more : (n : ℕ) → 10 ≤ n → decimal n ≡ decimal (n / 10) ++ 
 unfolding decimal decimalIn
 decimal-more n h = rw (le-ltb n 10 h, room-enough n (suc (n / 10)) (n / 10) (omega arith) (omega arith))
 
+pub length-digit : (n : ℕ) → n < 10 → length (decimal n) ≡ 1
+length-digit n h = ap length (decimal-digit n h)
+
+pub length-more : (n : ℕ) → 10 ≤ n → length (decimal n) ≡ length (decimal (n / 10)) + 1
+length-more n h = ap length (decimal-more n h) ∙ length-append (decimal (n / 10)) (digit (n % 10) ∷ [])
+
 -- ten times ten, so many times over
 tens : ℕ → ℕ
 tens zero = 10
