@@ -1,6 +1,8 @@
--- The report as a definition of the file's bytes, for any count of hits; then the laws of decimal numbers and of writing into a buffer.
+-- The report as a definition of the file's bytes; then the laws of decimal numbers and of writing into a buffer.
 pub mod Text
 pub mod Report
 pub mod Buffer
 pub mod Decimals
 pub mod Lines
+pub mod Counted
+pub mod Sample

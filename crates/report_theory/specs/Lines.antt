@@ -11,6 +11,7 @@ use lib.Dec.{leb, ltb}
 use lib.ListN.{length, getD, take, length-append, List·getD-eq-default}
 use lib.Seq.{take-suc, length-take-le}
 use Rattle.rules.specs.Limits.{capacities, isCapacity, lru, lfu, opt}
+use Rattle.theory.specs.Plain.{hitsAt}
 use Rattle.file_theory.specs.Decoding.{rising}
 use Rattle.report_theory.specs.Text.{text, decimal}
 use Rattle.report_theory.specs.Report.{line, heading, ending, refusedLine, lines}
@@ -127,8 +128,8 @@ module _ (a b c : List ℕ) where
       omega (arith, lines-short fa fb fc (take i ks) (fits-take i ks f))
 
 -- a table holds a policy's hits at every capacity (A4)
-abbrev pub Holds : (ℕ → ℕ → List ℕ → ℕ) → ℕ → List ℕ → List ℕ → Type 0
-Holds hits policy refs table = (k : ℕ) → 1 ≤ k → k ≤ capacities → entry table k ≡ hits policy k refs
+abbrev pub Holds : ℕ → List ℕ → List ℕ → Type 0
+Holds policy refs table = (k : ℕ) → 1 ≤ k → k ≤ capacities → entry table k ≡ hitsAt policy k refs
 
 both : (x y : Bool) → x && y ≡ true → (x ≡ true) × (y ≡ true)
 both true true e = (refl, refl)
@@ -137,14 +138,14 @@ both false true e = (e, refl)
 both false false e = (e, e)
 
 -- of capacities that keep R9, the lines of such tables are the lines of the hits
-pub hits-lines : (hits : ℕ → ℕ → List ℕ → ℕ) (refs a b c : List ℕ) → Holds hits lru refs a → Holds hits lfu refs b → Holds hits opt refs c
-    → (before : ℕ) (ks : List ℕ) → rising before ks ≡ true → tableLines a b c ks ≡ lines hits refs ks
+pub hits-lines : (refs a b c : List ℕ) → Holds lru refs a → Holds lfu refs b → Holds opt refs c
+    → (before : ℕ) (ks : List ℕ) → rising before ks ≡ true → tableLines a b c ks ≡ lines refs ks
 unfolding tableLines lines rising
-hits-lines hits refs a b c ha hb hc before [] e = refl
-hits-lines hits refs a b c ha hb hc before (k ∷ ks) e =
+hits-lines refs a b c ha hb hc before [] e = refl
+hits-lines refs a b c ha hb hc before (k ∷ ks) e =
     let ok = both (isCapacity k) (ltb before k && rising k ks) e in
     let range = both (leb 1 k) (leb k capacities) (ok .0) in
     let rest = both (ltb before k) (rising k ks) (ok .1) in
     let low : 1 ≤ k = leb-true 1 k (range .0) in
     let high : k ≤ capacities = leb-true k capacities (range .1) in
-    rw (ha k low high, hb k low high, hc k low high, hits-lines hits refs a b c ha hb hc k ks (rest .1))
+    rw (ha k low high, hb k low high, hc k low high, hits-lines refs a b c ha hb hc k ks (rest .1))

@@ -1,9 +1,10 @@
--- The report as a definition of the file's bytes (docs/RULES.md, T1 and T2), for any count of hits.
+-- The report as a definition of the file's bytes (docs/RULES.md, T1 and T2): the hits are those of the plain caches (D2).
 use Prim.Native.Nat.{ℕ}
 use mathlib.Core.List.{List, [], _∷_, _++_}
 use lib.ListN.{length}
 use Rattle.rules.specs.Limits.{lru, lfu, opt}
 use Rattle.rules.specs.declared.Refusal.{Refusal}
+use Rattle.theory.specs.Plain.{hitsAt}
 use Rattle.file_theory.specs.Decoding.{Outcome, says, refuses, Trace, traceIn}
 use Rattle.report_theory.specs.Text.{text, decimal}
 
@@ -22,17 +23,15 @@ ending n = text "references " ++ decimal n ++ text "\n"
 unfoldable pub refusedLine : ℕ → List ℕ
 refusedLine number = text "refused " ++ decimal number ++ text "\n"
 
--- the hits of a policy's cache with so many frames on a trace
-module _ (hits : ℕ → ℕ → List ℕ → ℕ) where
-  -- T1: a line for each capacity
-  unfoldable pub lines : List ℕ → List ℕ → List ℕ
-  lines refs [] = []
-  lines refs (c ∷ cs) = line c (hits lru c refs) (hits lfu c refs) (hits opt c refs) ++ lines refs cs
+-- T1: a line for each capacity
+unfoldable pub lines : List ℕ → List ℕ → List ℕ
+lines refs [] = []
+lines refs (c ∷ cs) = line c (hitsAt lru c refs) (hitsAt lfu c refs) (hitsAt opt c refs) ++ lines refs cs
 
-  abbrev pub reportFor : Outcome Trace → List ℕ
-  reportFor (says t) = heading ++ lines (t .refs) (t .caps) ++ ending (length (t .refs))
-  reportFor (refuses r) = refusedLine (r .number)
+abbrev pub reportFor : Outcome Trace → List ℕ
+reportFor (says t) = heading ++ lines (t .refs) (t .caps) ++ ending (length (t .refs))
+reportFor (refuses r) = refusedLine (r .number)
 
-  -- T1 and T2: what is printed for a file
-  unfoldable pub report : List ℕ → List ℕ
-  report file = reportFor (traceIn file)
+-- T1 and T2: what is printed for a file
+unfoldable pub report : List ℕ → List ℕ
+report file = reportFor (traceIn file)
