@@ -8,3 +8,4 @@ pub mod Sections
 pub mod Scans
 pub mod Answers
 pub mod RoundTrip
+pub mod Longest
