@@ -18,13 +18,9 @@ use Rattle.file_theory.specs.declared.Reading.{Reading}
 use Rattle.file_theory.specs.declared.Part.the-variants as Part
 use Rattle.file_theory.specs.declared.Reading.the-variants as Reading
 use Rattle.file_theory.specs.Format.{sectionSize, sectionValues, behindSection}
-use Rattle.file_theory.specs.Decoding.{Outcome, says, refuses, section, rising, firstOf, pagesAnswer, pagesOf, referencesIn, Trace, withCapacities, traceBehind, traceIn}
+use Rattle.file_theory.specs.Decoding.{Outcome, says, refuses, unplaced, section, rising, firstOf, pagesAnswer, pagesOf, referencesIn, Trace, withCapacities, traceBehind, traceIn}
 use Rattle.file_theory.specs.Promises.{overwritten, valuesOf, capsOf, refsOf, partOf, readingOf, PartRead, FileRead}
 use Rattle.file_theory.specs.Words.{length-numbers, to-the-end}
-
--- a refusal with no place of its own
-abbrev pub plain : ℕ → Refusal
-plain number = record { number = number; place = 0 }
 
 -- the references of a section that is whole: the two checks in their order are the order of refusals
 module _ (part : List ℕ) (n : ℕ) where
@@ -50,11 +46,11 @@ module _ (part : List ℕ) (n : ℕ) where
 
 -- the part that starts at the reference section
 module _ (part table : List ℕ) where
-  pub part-cut : Cut ≡ section references part → PartRead (referencesIn part) table (Part.Refused (plain cutFile)) table
+  pub part-cut : Cut ≡ section references part → PartRead (referencesIn part) table (Part.Refused (unplaced cutFile)) table
   unfolding referencesIn
   part-cut e = rw (← e) (record { answered = refl; table = refl })
 
-  pub part-over : Over ≡ section references part → PartRead (referencesIn part) table (Part.Refused (plain tooManyReferences)) table
+  pub part-over : Over ≡ section references part → PartRead (referencesIn part) table (Part.Refused (unplaced tooManyReferences)) table
   unfolding referencesIn
   part-over e = rw (← e) (record { answered = refl; table = refl })
 
@@ -71,7 +67,7 @@ handed-on file n before p e = rw (to-the-end (sectionSize n) file, e) at p
 
 -- what stands behind capacities that keep the rules
 module _ (file : List ℕ) (n : ℕ) (caps refs : List ℕ) where
-  pub not-rising : rising 0 (sectionValues n file) ≡ false → FileRead (traceBehind file n) caps refs (Reading.Refused (plain badCapacities)) caps refs
+  pub not-rising : rising 0 (sectionValues n file) ≡ false → FileRead (traceBehind file n) caps refs (Reading.Refused (unplaced badCapacities)) caps refs
   unfolding traceBehind
   not-rising e = rw e (record { answered = refl; caps-table = refl; refs-table = refl })
 
@@ -102,11 +98,11 @@ module _ (file : List ℕ) (n : ℕ) (caps refs : List ℕ) where
 
 -- the whole file
 module _ (file caps refs : List ℕ) where
-  pub file-cut : Cut ≡ section capacities file → FileRead (traceIn file) caps refs (Reading.Refused (plain cutFile)) caps refs
+  pub file-cut : Cut ≡ section capacities file → FileRead (traceIn file) caps refs (Reading.Refused (unplaced cutFile)) caps refs
   unfolding traceIn
   file-cut e = rw (← e) (record { answered = refl; caps-table = refl; refs-table = refl })
 
-  pub file-over : Over ≡ section capacities file → FileRead (traceIn file) caps refs (Reading.Refused (plain badCapacities)) caps refs
+  pub file-over : Over ≡ section capacities file → FileRead (traceIn file) caps refs (Reading.Refused (unplaced badCapacities)) caps refs
   unfolding traceIn
   file-over e = rw (← e) (record { answered = refl; caps-table = refl; refs-table = refl })
 

@@ -1,8 +1,8 @@
 -- What each file is read as (docs/RULES.md, F2 to F4, O5; R2, R3, R8, R9, R10).
-use Prim.Native.Nat.{ℕ, zero, suc}
+use Prim.Native.Nat.{ℕ}
 use mathlib.Core.Bool.{Bool, true, false, cond, _&&_}
 use mathlib.Core.List.{List, [], _∷_}
-use lib.Dec.{leb, ltb}
+use lib.Dec.{ltb}
 use lib.ListN.{length}
 use Rattle.rules.specs.Limits.{capacities, references, isCapacity}
 use Rattle.rules.specs.Refusals.{refuseIf, firstBadPage, cutFile, tooManyReferences, badCapacities, bytesLeft}
@@ -18,8 +18,9 @@ pub data Outcome (A : Type 0) : Type 0 where
   says : A → Outcome A
   refuses : Refusal → Outcome A
 
-abbrev pub refuses′ : {A : Type 0} → ℕ → Outcome A
-refuses′ number = refuses (record { number = number; place = 0 })
+-- A1: a refusal that has no place of its own
+abbrev pub unplaced : ℕ → Refusal
+unplaced number = record { number = number; place = 0 }
 
 -- O5, for each section: count present (8), count limit, values present (8)
 abbrev pub section : ℕ → List ℕ → Section
@@ -54,8 +55,8 @@ unfoldable pub pagesOf : List ℕ → ℕ → Outcome (List ℕ)
 pagesOf part n = unless (pagesAnswer part n) (sectionValues n part)
 
 abbrev pub referencesOf : List ℕ → Section → Outcome (List ℕ)
-referencesOf part Cut = refuses′ cutFile
-referencesOf part Over = refuses′ tooManyReferences
+referencesOf part Cut = refuses (unplaced cutFile)
+referencesOf part Over = refuses (unplaced tooManyReferences)
 referencesOf part (Values n) = pagesOf part n
 
 -- F3: the part of a file that starts at its reference section
@@ -75,11 +76,11 @@ unfoldable pub traceBehind : List ℕ → ℕ → Outcome Trace
 traceBehind file n =
     cond (rising 0 (sectionValues n file))
     (withCapacities (sectionValues n file) (referencesIn (behindSection n file)))
-    (refuses′ badCapacities)
+    (refuses (unplaced badCapacities))
 
 abbrev pub traceOf : List ℕ → Section → Outcome Trace
-traceOf file Cut = refuses′ cutFile
-traceOf file Over = refuses′ badCapacities
+traceOf file Cut = refuses (unplaced cutFile)
+traceOf file Over = refuses (unplaced badCapacities)
 traceOf file (Values n) = traceBehind file n
 
 -- F2 to F4: the whole file

@@ -9,3 +9,4 @@ pub mod Scans
 pub mod Answers
 pub mod RoundTrip
 pub mod Longest
+pub mod Callers

@@ -14,7 +14,7 @@ use Rattle.file_theory.specs.declared.Section.{Section}
 use Rattle.file_theory.specs.declared.Section.the-variants.{Cut, Over, Values}
 use Rattle.file_theory.specs.Format.{numberAt, numbers, sectionSize, sectionValues, behindSection}
 use Rattle.file_theory.specs.Encoding.{bytesOf}
-use Rattle.file_theory.specs.Decoding.{says, refuses′, section, pagesAnswer, pagesOf, referencesIn, Trace, traceBehind, traceIn}
+use Rattle.file_theory.specs.Decoding.{says, refuses, unplaced, section, pagesAnswer, pagesOf, referencesIn, Trace, traceBehind, traceIn}
 use Rattle.file_theory.specs.Words.{Bytes, numberAt-drop, numbers-take, length-bytesOf}
 use Rattle.file_theory.specs.Sections.{split}
 use Rattle.file_theory.specs.RoundTrip.{file-says}
@@ -50,7 +50,7 @@ long-section limit bytes h =
 
 -- a part longer than a full reference section is refused by its count alone
 long-part : (part : List ℕ) → sectionSize references < length part
-    → referencesIn part ≡ cond (ltb references (numberAt part 0)) (refuses′ tooManyReferences) (refuses′ bytesLeft)
+    → referencesIn part ≡ cond (ltb references (numberAt part 0)) (refuses (unplaced tooManyReferences)) (refuses (unplaced bytesLeft))
 unfolding referencesIn pagesOf pagesAnswer
 long-part part h =
     rw (long-section references part (omega arith))

@@ -17,7 +17,7 @@ use Rattle.file_theory.specs.declared.Section.{Section}
 use Rattle.file_theory.specs.declared.Section.the-variants.{Cut, Over, Values}
 use Rattle.file_theory.specs.Format.{numberAt, numbers, sectionSize, sectionValues, behindSection}
 use Rattle.file_theory.specs.Encoding.{bytesOf, encodeSection, encode}
-use Rattle.file_theory.specs.Decoding.{Outcome, says, refuses, refuses′, section, rising, unless, pagesAnswer, pagesOf, referencesOf, referencesIn, Trace, withCapacities, traceBehind, traceOf, traceIn}
+use Rattle.file_theory.specs.Decoding.{Outcome, says, refuses, section, rising, unless, pagesAnswer, pagesOf, referencesOf, referencesIn, Trace, withCapacities, traceBehind, traceOf, traceIn}
 use Rattle.file_theory.specs.Words.{Bytes, bytes-drop, length-numbers, length-bytesOf}
 use Rattle.file_theory.specs.Sections.{split, Found, found, section-encoded, values-encoded, behind-encoded, section-again}
 

@@ -73,3 +73,22 @@ then {at} {s = s} {t = t} {before = before} fits a b = record {
 
 pub kept-length : {at next : ℕ} {s before after : List ℕ} → at + length s ≤ length before → Wrote at s before next after → length after ≡ length before
 kept-length {at} {s = s} {before = before} fits w = rw (w .buffer) (length-put at s before fits)
+
+-- what a function that writes text from a buffer's front promises: how many bytes, the whole buffer after, and that the bytes are within it
+pub record Printed (text before : List ℕ) (count : ℕ) (after : List ℕ) : Type 0 where
+  pub counted : count ≡ length text
+  pub buffer : after ≡ text ++ drop (length text) before
+  pub within : count ≤ length after
+  pub part : count ≡ length (take count after)
+
+pub printed : {text before after : List ℕ} {count : ℕ} → Wrote 0 text before count after → Printed text before count after
+printed {text} {before} {after} {count} w =
+    let all : after ≡ text ++ drop (length text) before = w .buffer ∙ put-front text before in
+    let size : length after ≡ length text + length (drop (length text) before) = ap length all ∙ length-append text (drop (length text) before) in
+    let n : count ≡ length text = w .place ∙ zero-add (length text) in
+    let fits : count ≤ length after = omega arith in
+    record { counted = n; buffer = all; within = fits; part = sym (length-take-le count after fits) }
+
+-- two answers that both meet the promise are equal, and so are the buffers they leave
+pub printed-once : {text before x y : List ℕ} {m n : ℕ} → Printed text before m x → Printed text before n y → (m ≡ n) × (x ≡ y)
+printed-once p q = (p .counted ∙ sym (q .counted), p .buffer ∙ sym (q .buffer))

@@ -7,6 +7,9 @@ use native.Mathlib.Omega.{arith}
 use lib.ListN.{getD}
 use Rattle.rules.specs.Limits.{capacities}
 use Rattle.theory.specs.Plain.{hitsAt, hitsFrom, hitsUpTo}
+use Rattle.rules.specs.declared.Refusal.{Refusal}
+use Rattle.file_theory.specs.Decoding.{says, refuses, Trace, traceIn}
+use Rattle.report_theory.specs.Report.{refusedLine, reportFor, report}
 use Rattle.report_theory.specs.Lines.{entry, Holds}
 
 counted-at : (policy c n : ℕ) (trace rest : List ℕ) (i : ℕ) → i < n → getD (hitsFrom policy c n trace ++ rest) i 0 ≡ hitsAt policy (c + i) trace
@@ -22,3 +25,12 @@ counted-holds policy n trace rest h zero low high = absurd (not-suc-le-zero low)
 counted-holds policy n trace rest h (suc k) low high =
     let e : 1 + k ≡ suc k = omega arith in
     counted-at policy 1 n trace rest k (omega arith) ∙ ap (λ j. hitsAt policy j trace) e
+
+-- the report of a file from what the file is read as
+pub report-refused : (file : List ℕ) (r : Refusal) → traceIn file ≡ refuses r → report file ≡ refusedLine (r .number)
+unfolding report
+report-refused file r e = rw e
+
+pub report-accepted : (file : List ℕ) (t : Trace) → traceIn file ≡ says t → report file ≡ reportFor (says t)
+unfolding report
+report-accepted file t e = rw e

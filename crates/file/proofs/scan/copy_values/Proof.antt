@@ -1,4 +1,4 @@
--- `file::copy_values`: after i turns the table has the first i values in front, and behind them what stood there.
+-- `scan::copy_values`: after i turns the table has the first i values in front, and behind them what stood there.
 use Prim.Native.Nat.{ℕ, _≤_, _<_, _-_}
 use mathlib.Core.Path.{_≡_, refl, ap, _∙_}
 use mathlib.Core.List.{List, _++_}
@@ -7,8 +7,8 @@ use borrow.Author.Needs.{needs}
 use lib.ListN.{length, drop, set, length-set}
 use Rattle.file_theory.specs.Format.{numbers}
 use Rattle.file_theory.specs.Scans.{copied-none, copied-more, copied-all}
-use Rattle.file.proofs.copy_values.Statement.{statement}
-use Rattle.file.proofs.copy_values.Tie as tie
+use Rattle.file.proofs.scan.copy_values.Statement.{statement}
+use Rattle.file.proofs.scan.copy_values.Tie as tie
 
 abbrev Inv-loop : tie.InvT-loop
 Inv-loop bytes n table₀ i₀ table i = (i ≤ n) × (table ≡ numbers i (drop 2 bytes) ++ drop i table₀) × (length table ≡ length table₀)

@@ -1,4 +1,4 @@
--- `file::rising`: while no value broke the rule, the scan of all values says what the scan of the rest says.
+-- `scan::rising`: while no value broke the rule, the scan of all values says what the scan of the rest says.
 use Prim.Native.Nat.{_≤_, _-_}
 use mathlib.Core.Path.{_≡_, refl, sym, _∙_}
 use native.Mathlib.Omega.{arith}
@@ -7,8 +7,8 @@ use lib.ListN.{drop}
 use Rattle.file_theory.specs.Format.{sectionValues}
 use Rattle.file_theory.specs.Decoding.{rising as risingOf}
 use Rattle.file_theory.specs.Scans.{not-above, above-limit, risen, no-value}
-use Rattle.file.proofs.rising.Statement.{statement}
-use Rattle.file.proofs.rising.Tie as tie
+use Rattle.file.proofs.scan.rising.Statement.{statement}
+use Rattle.file.proofs.scan.rising.Tie as tie
 
 abbrev Inv-loop : tie.InvT-loop
 Inv-loop bytes n before₀ i₀ before i = (i ≤ n) × (risingOf 0 (sectionValues n bytes) ≡ risingOf before (drop i (sectionValues n bytes)))

@@ -1,10 +1,10 @@
--- `file::section`: each return rewrites the definition with the tests that led there.
+-- `scan::section`: each return rewrites the definition with the tests that led there.
 use native.Mathlib.Omega.{arith}
 use borrow.Author.Tests.{lt-ltb}
 use Rattle.file_theory.specs.Sections.{is-over, is-cut, is-whole}
 use borrow.Author.Needs.{needs}
-use Rattle.file.proofs.section.Statement.{statement}
-use Rattle.file.proofs.section.Tie as tie
+use Rattle.file.proofs.scan.section.Statement.{statement}
+use Rattle.file.proofs.scan.section.Tie as tie
 
 returns : tie.Need-returns
 returns c = simp (lt-ltb _ _ (c .if1 .taken))

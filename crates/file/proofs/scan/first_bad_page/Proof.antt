@@ -1,4 +1,4 @@
--- `file::first_bad_page`: while no page was bad, the scan of all values says what the scan of the rest says.
+-- `scan::first_bad_page`: while no page was bad, the scan of all values says what the scan of the rest says.
 use Prim.Native.Nat.{_≤_, _-_}
 use mathlib.Core.Path.{_≡_, refl, sym, _∙_}
 use native.Mathlib.Omega.{arith}
@@ -8,8 +8,8 @@ use Rattle.rules.specs.Refusals.{firstBadPage}
 use Rattle.rules.specs.declared.Answer.the-variants.{Accepted}
 use Rattle.file_theory.specs.Format.{sectionValues}
 use Rattle.file_theory.specs.Scans.{bad-page, good-page, no-value}
-use Rattle.file.proofs.first_bad_page.Statement.{statement}
-use Rattle.file.proofs.first_bad_page.Tie as tie
+use Rattle.file.proofs.scan.first_bad_page.Statement.{statement}
+use Rattle.file.proofs.scan.first_bad_page.Tie as tie
 
 abbrev Inv-loop : tie.InvT-loop
 Inv-loop bytes n i₀ i = (i ≤ n) × (firstBadPage 0 (sectionValues n bytes) Accepted ≡ firstBadPage i (drop i (sectionValues n bytes)) Accepted)

@@ -1,12 +1,12 @@
--- `file::bytes_left`: each return rewrites with the test that led there.
+-- `scan::bytes_left`: each return rewrites with the test that led there.
 use native.Mathlib.Omega.{arith}
 use lib.ListN.{length}
 use Rattle.file_theory.specs.Format.{sectionSize}
 use mathlib.Core.Path.{_∙_}
 use borrow.Author.Tests.{lt-ltb, le-ltb}
 use borrow.Author.Needs.{needs}
-use Rattle.file.proofs.bytes_left.Statement.{statement}
-use Rattle.file.proofs.bytes_left.Tie as tie
+use Rattle.file.proofs.scan.bytes_left.Statement.{statement}
+use Rattle.file.proofs.scan.bytes_left.Tie as tie
 
 mul-if1 : tie.Need-mul-if1
 mul-if1 c = search needs

@@ -1,9 +1,9 @@
--- `file::number_at`: two bytes make a number below 65,536.
+-- `scan::number_at`: two bytes make a number below 65,536.
 use Prim.Native.Nat.{_+_}
 use native.Mathlib.Omega.{arith}
 use borrow.Author.Needs.{needs}
-use Rattle.file.proofs.number_at.Statement.{statement}
-use Rattle.file.proofs.number_at.Tie as tie
+use Rattle.file.proofs.scan.number_at.Statement.{statement}
+use Rattle.file.proofs.scan.number_at.Tie as tie
 
 shared-slice-read-low : tie.Need-shared-slice-read-low
 shared-slice-read-low c = search needs

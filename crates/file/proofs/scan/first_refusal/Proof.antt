@@ -1,7 +1,7 @@
--- `file::first_refusal`: the first answer, where it refuses, is the answer.
+-- `scan::first_refusal`: the first answer, where it refuses, is the answer.
 use borrow.Author.Needs.{needs}
-use Rattle.file.proofs.first_refusal.Statement.{statement}
-use Rattle.file.proofs.first_refusal.Tie as tie
+use Rattle.file.proofs.scan.first_refusal.Statement.{statement}
+use Rattle.file.proofs.scan.first_refusal.Tie as tie
 
 enum-known-first : tie.Need-enum-known-first
 enum-known-first c = search needs
