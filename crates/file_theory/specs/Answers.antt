@@ -2,7 +2,7 @@
 use Prim.Native.Nat.{ℕ, _-_}
 use mathlib.Core.Path.{_≡_, refl, sym, ap, _∙_}
 use mathlib.Core.Bool.{Bool, true, false}
-use mathlib.Core.List.{List, [], _++_}
+use mathlib.Core.List.{List}
 use native.Mathlib.Omega.{arith}
 use lib.Dec.{ltb}
 use lib.ListN.{length, take, drop}
@@ -11,7 +11,6 @@ use Rattle.rules.specs.Refusals.{refuseIf, firstBadPage, cutFile, tooManyRefere
 use Rattle.rules.specs.declared.Refusal.{Refusal}
 use Rattle.rules.specs.declared.Answer.{Answer}
 use Rattle.rules.specs.declared.Answer.the-variants.{Accepted, Refused}
-use Rattle.file_theory.specs.declared.Section.{Section}
 use Rattle.file_theory.specs.declared.Section.the-variants.{Cut, Over, Values}
 use Rattle.file_theory.specs.declared.Part.{Part}
 use Rattle.file_theory.specs.declared.Reading.{Reading}
@@ -19,7 +18,7 @@ use Rattle.file_theory.specs.declared.Part.the-variants as Part
 use Rattle.file_theory.specs.declared.Reading.the-variants as Reading
 use Rattle.file_theory.specs.Format.{sectionSize, sectionValues, behindSection}
 use Rattle.file_theory.specs.Decoding.{Outcome, says, refuses, unplaced, section, rising, firstOf, pagesAnswer, pagesOf, referencesIn, Trace, withCapacities, traceBehind, traceIn}
-use Rattle.file_theory.specs.Promises.{overwritten, valuesOf, capsOf, refsOf, partOf, readingOf, PartRead, FileRead}
+use Rattle.file_theory.specs.Promises.{overwritten, valuesOf, partOf, PartRead, FileRead}
 use Rattle.file_theory.specs.Words.{length-numbers, to-the-end}
 
 -- the references of a section that is whole: the two checks in their order are the order of refusals

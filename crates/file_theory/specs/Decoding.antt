@@ -1,6 +1,6 @@
 -- What each file is read as (docs/RULES.md, F2 to F4, O5; R2, R3, R8, R9, R10).
 use Prim.Native.Nat.{ℕ}
-use mathlib.Core.Bool.{Bool, true, false, cond, _&&_}
+use mathlib.Core.Bool.{Bool, true, cond, _&&_}
 use mathlib.Core.List.{List, [], _∷_}
 use lib.Dec.{ltb}
 use lib.ListN.{length}

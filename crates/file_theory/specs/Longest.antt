@@ -10,8 +10,7 @@ use lib.ListN.{length, take, length-append, length-drop}
 use lib.Seq.{length-take-le, getD-take}
 use Rattle.rules.specs.Limits.{capacities, references}
 use Rattle.rules.specs.Refusals.{tooManyReferences, bytesLeft}
-use Rattle.file_theory.specs.declared.Section.{Section}
-use Rattle.file_theory.specs.declared.Section.the-variants.{Cut, Over, Values}
+use Rattle.file_theory.specs.declared.Section.the-variants.{Over, Values}
 use Rattle.file_theory.specs.Format.{numberAt, numbers, sectionSize, sectionValues, behindSection}
 use Rattle.file_theory.specs.Encoding.{bytesOf}
 use Rattle.file_theory.specs.Decoding.{says, refuses, unplaced, section, pagesAnswer, pagesOf, referencesIn, Trace, traceBehind, traceIn}

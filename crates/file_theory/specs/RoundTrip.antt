@@ -1,21 +1,21 @@
 -- The round trip: what the encoder makes of capacities and references that keep the rules is read back as just these; an accepted file is what the encoder makes of what it says; so two accepted files that say the same are the same bytes.
-use Prim.Native.Nat.{ℕ, zero, suc, _+_, _*_, _≤_, _<_}
+use Prim.Native.Nat.{ℕ, _≤_}
 use mathlib.Core.Path.{_≡_, refl, sym, ap, subst, _∙_}
-use mathlib.Core.Bool.{Bool, true, false, cond}
-use mathlib.Core.List.{List, [], _∷_, _++_, append-nil}
+use mathlib.Core.Bool.{true, false}
+use mathlib.Core.List.{List, [], _++_, append-nil}
 use native.Mathlib.Omega.{arith}
 use borrow.Author.Tests.{le-ltb, ltb-false}
 use lib.Dec.{ltb}
-use lib.ListN.{length, drop, length-drop}
+use lib.ListN.{length, drop}
 use lib.Seq.{drop-length}
 use Rattle.rules.specs.Limits.{capacities, references}
-use Rattle.rules.specs.Refusals.{refuseIf, firstBadPage, bytesLeft}
+use Rattle.rules.specs.Refusals.{firstBadPage}
 use Rattle.rules.specs.declared.Refusal.{Refusal}
 use Rattle.rules.specs.declared.Answer.{Answer}
 use Rattle.rules.specs.declared.Answer.the-variants.{Accepted, Refused}
 use Rattle.file_theory.specs.declared.Section.{Section}
 use Rattle.file_theory.specs.declared.Section.the-variants.{Cut, Over, Values}
-use Rattle.file_theory.specs.Format.{numberAt, numbers, sectionSize, sectionValues, behindSection}
+use Rattle.file_theory.specs.Format.{sectionSize, sectionValues, behindSection}
 use Rattle.file_theory.specs.Encoding.{bytesOf, encodeSection, encode}
 use Rattle.file_theory.specs.Decoding.{Outcome, says, refuses, section, rising, unless, pagesAnswer, pagesOf, referencesOf, referencesIn, Trace, withCapacities, traceBehind, traceOf, traceIn}
 use Rattle.file_theory.specs.Words.{Bytes, bytes-drop, length-numbers, length-bytesOf}

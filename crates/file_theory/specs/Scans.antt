@@ -1,17 +1,15 @@
 -- Laws for a loop over a section's values, one number a turn: what the rest of a scan says after a value, and what a table holds after a store.
-use Prim.Native.Nat.{ℕ, zero, suc, _+_, _*_, _≤_, _<_}
-use mathlib.Core.Path.{_≡_, refl, sym, ap, _∙_}
-use mathlib.Core.Bool.{Bool, true, false, and-false}
+use Prim.Native.Nat.{ℕ, suc, _+_, _*_, _≤_, _<_}
+use mathlib.Core.Path.{_≡_, refl, sym, _∙_}
+use mathlib.Core.Bool.{false, and-false}
 use mathlib.Core.List.{List, [], _∷_, _++_}
 use native.Mathlib.Numerals.{add-one}
 use native.Mathlib.Omega.{arith}
 use borrow.Author.Tests.{lt-ltb, le-ltb, le-leb, lt-leb}
-use lib.Dec.{ltb, leb}
 use lib.ListN.{length, getD, set, drop}
 use lib.Seq.{drop-cons, drop-length, set-at, append-snoc}
 use Rattle.rules.specs.Limits.{capacities, pages}
 use Rattle.rules.specs.Refusals.{firstBadPage, refusal, badPage}
-use Rattle.rules.specs.declared.Answer.{Answer}
 use Rattle.rules.specs.declared.Answer.the-variants.{Accepted}
 use Rattle.file_theory.specs.Format.{numberAt, numbers, sectionValues}
 use Rattle.file_theory.specs.Decoding.{rising}

@@ -1,7 +1,7 @@
 -- A counted hit table holds the hits of the plain caches (docs/RULES.md, A4), so the lines read off it are the report's.
 use Prim.Native.Nat.{ℕ, zero, suc, _+_, _≤_, _<_}
-use mathlib.Core.Path.{_≡_, refl, ap, _∙_}
-use mathlib.Core.List.{List, [], _∷_, _++_}
+use mathlib.Core.Path.{_≡_, ap, _∙_}
+use mathlib.Core.List.{List, _++_}
 use native.Mathlib.Nat.{not-suc-le-zero, le-of-suc-le-suc}
 use native.Mathlib.Omega.{arith}
 use lib.ListN.{getD}
@@ -10,7 +10,7 @@ use Rattle.theory.specs.Plain.{hitsAt, hitsFrom, hitsUpTo}
 use Rattle.rules.specs.declared.Refusal.{Refusal}
 use Rattle.file_theory.specs.Decoding.{says, refuses, Trace, traceIn}
 use Rattle.report_theory.specs.Report.{refusedLine, reportFor, report}
-use Rattle.report_theory.specs.Lines.{entry, Holds}
+use Rattle.report_theory.specs.Lines.{Holds}
 
 counted-at : (policy c n : ℕ) (trace rest : List ℕ) (i : ℕ) → i < n → getD (hitsFrom policy c n trace ++ rest) i 0 ≡ hitsAt policy (c + i) trace
 unfolding hitsFrom

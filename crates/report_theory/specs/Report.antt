@@ -3,7 +3,6 @@ use Prim.Native.Nat.{ℕ}
 use mathlib.Core.List.{List, [], _∷_, _++_}
 use lib.ListN.{length}
 use Rattle.rules.specs.Limits.{lru, lfu, opt}
-use Rattle.rules.specs.declared.Refusal.{Refusal}
 use Rattle.theory.specs.Plain.{hitsAt}
 use Rattle.file_theory.specs.Decoding.{Outcome, says, refuses, Trace, traceIn}
 use Rattle.report_theory.specs.Text.{text, decimal}
