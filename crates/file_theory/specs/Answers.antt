@@ -78,7 +78,7 @@ module _ (file : List ℕ) (n : ℕ) (caps refs : List ℕ) where
     where
       passed : (o : Outcome (List ℕ)) → Part.Refused r ≡ partOf o → after ≡ overwritten (valuesOf o) refs
           → FileRead (withCapacities (sectionValues n file) o) caps refs (Reading.Refused r) caps after
-      passed (says rs) a t = absurd (let z : _≡_ {A = ℕ} 0 1 = cc in let w : ⊥ = omega arith in w)
+      passed (says rs) a t = let z : _≡_ {A = ℕ} 0 1 = cc in absurd (omega arith)
       passed (refuses x) a t = record { answered = ap Reading.Refused (let q : r ≡ x = cc in q); caps-table = refl; refs-table = t }
 
   pub behind-read : (m : ℕ) (caps-after after : List ℕ) → rising 0 (sectionValues n file) ≡ true
@@ -93,7 +93,7 @@ module _ (file : List ℕ) (n : ℕ) (caps refs : List ℕ) where
       passed (says rs) a t =
           let q : m ≡ length rs = cc in
           record { answered = rw (q, length-numbers n (drop 2 file)); caps-table = copied; refs-table = t }
-      passed (refuses x) a t = absurd (let z : _≡_ {A = ℕ} 0 1 = cc in let w : ⊥ = omega arith in w)
+      passed (refuses x) a t = let z : _≡_ {A = ℕ} 0 1 = cc in absurd (omega arith)
 
 -- the whole file
 module _ (file caps refs : List ℕ) where

@@ -1,6 +1,6 @@
 -- What the file reader's answer tells whoever called it: the trace stands in front of the two tables, and keeps the rules.
 use Prim.Native.Nat.{ℕ, _≤_}
-use mathlib.Core.Path.{_≡_, ap}
+use mathlib.Core.Path.{_≡_, ap, sym, _∙_}
 use mathlib.Core.List.{List}
 use native.Mathlib.Omega.{arith}
 use lib.ListN.{length, take, drop, length-append}
@@ -11,7 +11,8 @@ use Rattle.file_theory.specs.declared.Reading.{Reading}
 use Rattle.file_theory.specs.declared.Reading.the-variants as Reading
 use Rattle.file_theory.specs.Decoding.{Outcome, says, refuses, Trace, traceIn}
 use Rattle.file_theory.specs.Promises.{readingOf, FileRead}
-use Rattle.file_theory.specs.RoundTrip.{GoodTrace, file-says}
+use Rattle.file_theory.specs.Words.{Bytes}
+use Rattle.file_theory.specs.RoundTrip.{GoodTrace, file-says, same-bytes}
 
 -- the trace in front of two tables
 abbrev pub inFront : List ℕ → List ℕ → Counts → Trace
@@ -30,7 +31,7 @@ record Told (outcome : Outcome Trace) (caps refs : List ℕ) (counts : Counts) :
 
 module _ {caps-before refs-before caps refs : List ℕ} {answer : Reading} where
   told : (counts : Counts) (outcome : Outcome Trace) → FileRead outcome caps-before refs-before answer caps refs → answer ≡ Reading.Accepted counts → Told outcome caps refs counts
-  told counts (refuses r) p e = absurd (let q = p .answered in let z : _≡_ {A = ℕ} 0 1 = cc in let w : ⊥ = omega arith in w)
+  told counts (refuses r) p e = let q = p .answered in let z : _≡_ {A = ℕ} 0 1 = cc in absurd (omega arith)
   told counts (says t) p e =
       let same : counts ≡ record { capacities = length (t .caps); references = length (t .refs) } = let q = p .answered in cc in
       let n : counts .capacities ≡ length (t .caps) = ap (λ (x : Counts). x .capacities) same in
@@ -56,5 +57,13 @@ module _ {caps-before refs-before caps refs : List ℕ} {answer : Reading} where
     refused-says r e = go (traceIn file) (p .answered)
       where
         go : (o : Outcome Trace) → answer ≡ readingOf o → o ≡ refuses r
-        go (says t) a = absurd (let z : _≡_ {A = ℕ} 0 1 = cc in let w : ⊥ = omega arith in w)
+        go (says t) a = let z : _≡_ {A = ℕ} 0 1 = cc in absurd (omega arith)
         go (refuses x) a = ap refuses (let s : x ≡ r = cc in s)
+
+-- two accepted files with one answer and the same values in front of their tables are the same bytes
+pub same-answer : {caps-before refs-before caps refs caps-before′ refs-before′ caps′ refs′ : List ℕ} {answer answer′ : Reading} (file other : List ℕ)
+    → FileRead (traceIn file) caps-before refs-before answer caps refs → FileRead (traceIn other) caps-before′ refs-before′ answer′ caps′ refs′
+    → (counts : Counts) → answer ≡ Reading.Accepted counts → answer′ ≡ Reading.Accepted counts
+    → inFront caps refs counts ≡ inFront caps′ refs′ counts → Bytes file → Bytes other → file ≡ other
+same-answer {caps = caps} {refs = refs} file other p q counts a b same all all′ =
+    same-bytes file other (inFront caps refs counts) all all′ (accepted-says file p counts a) (accepted-says other q counts b ∙ ap says (sym same))

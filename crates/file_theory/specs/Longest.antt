@@ -8,6 +8,7 @@ use borrow.Author.Tests.{lt-ltb, le-ltb, ltb-false}
 use lib.Dec.{ltb}
 use lib.ListN.{length, take, length-append, length-drop}
 use lib.Seq.{length-take-le, getD-take}
+use Rattle.rules.specs.Cases.{by-cases}
 use Rattle.rules.specs.Limits.{capacities, references}
 use Rattle.rules.specs.Refusals.{tooManyReferences, bytesLeft}
 use Rattle.file_theory.specs.declared.Section.the-variants.{Over, Values}
@@ -15,7 +16,6 @@ use Rattle.file_theory.specs.Format.{numberAt, numbers, sectionSize, sec
 use Rattle.file_theory.specs.Encoding.{bytesOf}
 use Rattle.file_theory.specs.Decoding.{says, refuses, unplaced, section, pagesAnswer, pagesOf, referencesIn, Trace, traceBehind, traceIn}
 use Rattle.file_theory.specs.Words.{Bytes, numberAt-drop, numbers-take, length-bytesOf}
-use Rattle.file_theory.specs.Sections.{split}
 use Rattle.file_theory.specs.RoundTrip.{file-says}
 
 -- F5: both sections full
@@ -43,7 +43,7 @@ long-section : (limit : ℕ) (bytes : List ℕ) → sectionSize limit ≤ length
     → section limit bytes ≡ cond (ltb limit (numberAt bytes 0)) Over (Values (numberAt bytes 0))
 long-section limit bytes h =
     rw (le-ltb (length bytes) 2 (omega arith))
-    (split (ltb limit (numberAt bytes 0))
+    (by-cases (ltb limit (numberAt bytes 0))
     (λ over. rw over)
     (λ within. rw (within, le-ltb (length bytes) (sectionSize (numberAt bytes 0)) (omega (arith, ltb-false limit (numberAt bytes 0) within)))))
 
@@ -53,7 +53,7 @@ long-part : (part : List ℕ) → sectionSize references < length part
 unfolding referencesIn pagesOf pagesAnswer
 long-part part h =
     rw (long-section references part (omega arith))
-    (split (ltb references (numberAt part 0))
+    (by-cases (ltb references (numberAt part 0))
     (λ over. rw over)
     (λ within. rw (within, lt-ltb (sectionSize (numberAt part 0)) (length part) (omega (arith, ltb-false references (numberAt part 0) within)))))
 
@@ -90,6 +90,6 @@ module _ (file : List ℕ) (long : longest < length file) where
   unfolding traceIn
   first-bytes =
       rw (long-section capacities first (omega (arith, first-length)), long-section capacities file (omega arith), same-number 0 (omega arith))
-      (split (ltb capacities (numberAt file 0))
+      (by-cases (ltb capacities (numberAt file 0))
       (λ over. rw over)
       (λ within. rw within (same-trace (numberAt file 0) (ltb-false capacities (numberAt file 0) within))))

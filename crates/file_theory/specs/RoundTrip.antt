@@ -8,6 +8,7 @@ use borrow.Author.Tests.{le-ltb, ltb-false}
 use lib.Dec.{ltb}
 use lib.ListN.{length, drop}
 use lib.Seq.{drop-length}
+use Rattle.rules.specs.Cases.{by-cases}
 use Rattle.rules.specs.Limits.{capacities, references}
 use Rattle.rules.specs.Refusals.{firstBadPage}
 use Rattle.rules.specs.declared.Refusal.{Refusal}
@@ -19,7 +20,7 @@ use Rattle.file_theory.specs.Format.{sectionSize, sectionValues, behindS
 use Rattle.file_theory.specs.Encoding.{bytesOf, encodeSection, encode}
 use Rattle.file_theory.specs.Decoding.{Outcome, says, refuses, section, rising, unless, pagesAnswer, pagesOf, referencesOf, referencesIn, Trace, withCapacities, traceBehind, traceOf, traceIn}
 use Rattle.file_theory.specs.Words.{Bytes, bytes-drop, length-numbers, length-bytesOf}
-use Rattle.file_theory.specs.Sections.{split, Found, found, section-encoded, values-encoded, behind-encoded, section-again}
+use Rattle.file_theory.specs.Sections.{Found, found, section-encoded, values-encoded, behind-encoded, section-again}
 
 -- references and a trace that keep the rules (L1 to L3, R2, R3, R9)
 pub record GoodReferences (rs : List ℕ) : Type 0 where
@@ -83,7 +84,7 @@ part-says part rs = go (section references part) refl
     go Cut q = λ e. absurd (refuses≢ _ rs e)
     go Over q = λ e. absurd (refuses≢ _ rs e)
     go (Values n) q =
-        split (ltb (sectionSize n) (length part))
+        by-cases (ltb (sectionSize n) (length part))
         (λ left. rw left λ e. absurd (refuses≢ _ rs e))
         (λ none. rw none λ e. paged n (found references part n q) none (firstBadPage 0 (sectionValues n part) Accepted) refl e)
 
@@ -114,7 +115,7 @@ file-says file t = go (section capacities file) refl
     go Cut q = λ e. absurd (refuses≢ _ t e)
     go Over q = λ e. absurd (refuses≢ _ t e)
     go (Values n) q =
-        split (rising 0 (sectionValues n file))
+        by-cases (rising 0 (sectionValues n file))
         (λ r. rw r λ e. whole n (found capacities file n q) r (referencesIn (behindSection n file)) refl e)
         (λ r. rw r λ e. absurd (refuses≢ _ t e))
 

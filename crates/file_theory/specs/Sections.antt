@@ -1,23 +1,18 @@
 -- Laws of one section: an encoded section is found whole, and a section that is found is the encoding of its values.
 use Prim.Native.Nat.{ℕ, suc, _+_, _*_, _%_, _/_, _≤_, _<_}
-use mathlib.Core.Path.{_≡_, refl, sym, ap, _∙_}
-use mathlib.Core.Bool.{Bool, true, false}
+use mathlib.Core.Path.{_≡_, sym, ap, _∙_}
 use mathlib.Core.List.{List, _∷_, _++_}
 use native.Mathlib.Omega.{arith}
 use borrow.Author.Tests.{le-ltb, lt-ltb, ltb-false}
 use lib.Dec.{ltb}
 use lib.ListN.{length, take, drop, length-append, take-append-drop}
 use lib.Seq.{drop-at}
+use Rattle.rules.specs.Cases.{by-cases}
 use Rattle.file_theory.specs.declared.Section.the-variants.{Cut, Over, Values}
 use Rattle.file_theory.specs.Format.{numberAt, numbers, sectionSize, sectionValues, behindSection}
 use Rattle.file_theory.specs.Encoding.{bytesOf, encodeSection}
 use Rattle.file_theory.specs.Decoding.{section}
 use Rattle.file_theory.specs.Words.{Bytes, length-numbers, length-bytesOf, numbers-bytesOf, bytesOf-numbers}
-
--- a test is true or false, and either way tells
-pub split : {X : Type 0} (b : Bool) → (b ≡ true → X) → (b ≡ false → X) → X
-split true yes₁ no₁ = yes₁ refl
-split false yes₁ no₁ = no₁ refl
 
 -- what a section that is found tells of its bytes
 pub record Found (limit : ℕ) (bytes : List ℕ) (n : ℕ) : Type 0 where
@@ -27,13 +22,13 @@ pub record Found (limit : ℕ) (bytes : List ℕ) (n : ℕ) : Type 0 where
 
 pub found : (limit : ℕ) (bytes : List ℕ) (n : ℕ) → section limit bytes ≡ Values n → Found limit bytes n
 found limit bytes n =
-    split (ltb (length bytes) 2)
+    by-cases (ltb (length bytes) 2)
     (λ short. rw short λ e. absurd (cut≢ n e))
     (λ long. rw long
-    (split (ltb limit (numberAt bytes 0))
+    (by-cases (ltb limit (numberAt bytes 0))
     (λ over. rw over λ e. absurd (over≢ n e))
     (λ within. rw within
-    (split (ltb (length bytes) (sectionSize (numberAt bytes 0)))
+    (by-cases (ltb (length bytes) (sectionSize (numberAt bytes 0)))
     (λ part. rw part λ e. absurd (cut≢ n e))
     (λ whole. rw whole λ e. made (counted e) (ltb-false _ _ within) (ltb-false _ _ whole))))))
   where

@@ -48,8 +48,8 @@ numbers-more (suc n) bytes =
 pub numbers-take : (n m : ℕ) (bytes : List ℕ) → 2 * n ≤ m → numbers n (take m bytes) ≡ numbers n bytes
 unfolding numbers
 numbers-take zero m bytes h = refl
-numbers-take (suc n) zero bytes h = absurd (not-suc-le-zero (let a : 1 ≤ 0 = omega arith in a))
-numbers-take (suc n) (suc zero) bytes h = absurd (not-suc-le-zero (let a : 1 ≤ 0 = omega arith in a))
+numbers-take (suc n) zero bytes h = absurd (omega arith)
+numbers-take (suc n) (suc zero) bytes h = absurd (omega arith)
 numbers-take (suc n) (suc (suc m)) [] h = refl
 numbers-take (suc n) (suc (suc m)) (a ∷ []) h = refl
 numbers-take (suc n) (suc (suc m)) (a ∷ b ∷ bytes) h =
@@ -72,8 +72,8 @@ numbers-bytesOf (v ∷ values) rest =
 pub bytesOf-numbers : (n : ℕ) (bytes : List ℕ) → Bytes bytes → 2 * n ≤ length bytes → bytesOf (numbers n bytes) ≡ take (2 * n) bytes
 unfolding bytesOf numbers
 bytesOf-numbers zero bytes all h = refl
-bytesOf-numbers (suc n) [] all h = absurd (not-suc-le-zero (let a : 1 ≤ 0 = omega arith in a))
-bytesOf-numbers (suc n) (a ∷ []) all h = absurd (not-suc-le-zero (let a : 1 ≤ 0 = omega arith in a))
+bytesOf-numbers (suc n) [] all h = absurd (omega arith)
+bytesOf-numbers (suc n) (a ∷ []) all h = absurd (omega arith)
 bytesOf-numbers (suc n) (a ∷ b ∷ bytes) all h =
     let low : a < 256 = all 0 in
     let ea : (a + 256 * b) % 256 ≡ a = omega arith in

@@ -10,6 +10,7 @@ use rules::LRU;
 use rules::OPT;
 use rules::REFERENCES;
 use rules::Refusal;
+use write::LINE;
 use write::put_lines;
 use write::put_number;
 use write::put_text;
@@ -22,10 +23,11 @@ ghost use Rattle.file_theory.specs.RoundTrip.{GoodTrace};
 ghost use Rattle.file_theory.specs.Callers.{Ready, inFront};
 ghost use Rattle.report_theory.specs.Report.{heading, ending, refusedLine, reportFor, report as reportOf};
 ghost use Rattle.report_theory.specs.Buffer.{Wrote, Printed};
+ghost use Rattle.report_theory.specs.Pieces.{longestLine};
 ghost use Rattle.report_theory.specs.Lines.{tableLines};
 
-// Room for the longest report: a line of at most 44 bytes for each capacity, and the first and the last line.
-pub const REPORT: usize = 64 + 44 * CAPACITIES;
+// Room for the longest report: a line for each capacity, and the first and the last line.
+pub const REPORT: usize = 64 + LINE * CAPACITIES;
 
 // The one line of a refused file.
 fn put_refused(out: &mut [u8; REPORT], refusal: Refusal) -> usize

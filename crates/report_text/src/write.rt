@@ -7,7 +7,11 @@ ghost use lib.ListN.{length};
 ghost use Rattle.report_theory.specs.Text.{decimal};
 ghost use Rattle.report_theory.specs.Report.{line};
 ghost use Rattle.report_theory.specs.Buffer.{Wrote};
-ghost use Rattle.report_theory.specs.Lines.{number, entry, tableLines};
+ghost use Rattle.report_theory.specs.Pieces.{number, longestLine};
+ghost use Rattle.report_theory.specs.Lines.{entry, tableLines};
+
+// No line is longer: four numbers of ten digits, three spaces and a newline.
+pub const LINE: usize = 44;
 
 fn put_byte(out: &mut [u8], at: usize, b: u8) -> usize
     requires { ⌜ at < length (now out) ⌝ }
@@ -74,7 +78,7 @@ fn hits_at(table: &[u32], capacity: usize) -> u32
     table[capacity - 1]
 }
 
-// The line of one capacity, read off the hit tables of the three policies. No line is longer than 44 bytes.
+// The line of one capacity, read off the hit tables of the three policies.
 fn put_capacity(
     out: &mut [u8],
     at: usize,
@@ -83,7 +87,7 @@ fn put_capacity(
     lfu: &[u32],
     opt: &[u32],
 ) -> usize
-    requires { ⌜ at + 44 ≤ length (now out) ⌝ }
+    requires { ⌜ at + longestLine ≤ length (now out) ⌝ }
     ensures { λ r. ⌜ Wrote at (line capacity (entry (now (lru .entry)) capacity) (entry (now (lfu .entry)) capacity) (entry (now (opt .entry)) capacity)) (now (out .entry)) r (now (out .exit)) ⌝ }
 {
     let c = capacity as usize;
@@ -102,7 +106,7 @@ pub fn put_lines(
     lfu: &[u32],
     opt: &[u32],
 ) -> usize
-    requires { ⌜ at + 44 * length (now capacities) ≤ length (now out) ⌝ }
+    requires { ⌜ at + longestLine * length (now capacities) ≤ length (now out) ⌝ }
     ensures { λ r. ⌜ Wrote at (tableLines (now (lru .entry)) (now (lfu .entry)) (now (opt .entry)) (now (capacities .entry))) (now (out .entry)) r (now (out .exit)) ⌝ }
 {
     let mut i = 0;

@@ -1,5 +1,5 @@
 -- Laws of decimal numbers: the digits of a number from those of its tenth, and how many there are.
-use Prim.Native.Nat.{ℕ, zero, suc, _+_, _*_, _/_, _%_, _≤_, _<_}
+use Prim.Native.Nat.{ℕ, zero, suc, _+_, _*_, _^_, _/_, _%_, _≤_, _<_}
 use mathlib.Core.Path.{_≡_, ap, _∙_}
 use mathlib.Core.List.{[], _∷_, _++_}
 use native.Mathlib.Nat.{not-suc-le-zero}
@@ -7,7 +7,7 @@ use native.Mathlib.Omega.{arith}
 use borrow.Author.Tests.{lt-ltb, le-ltb, ltb-false}
 use lib.Dec.{ltb}
 use lib.ListN.{length, length-append}
-use Rattle.file_theory.specs.Sections.{split}
+use Rattle.rules.specs.Cases.{by-cases}
 use Rattle.report_theory.specs.Text.{digit, decimalIn, decimal}
 
 -- room beyond the number itself makes no difference
@@ -16,7 +16,7 @@ unfolding decimalIn
 room-enough zero b n h k = absurd (not-suc-le-zero h)
 room-enough (suc a) zero n h k = absurd (not-suc-le-zero k)
 room-enough (suc a) (suc b) n h k =
-    split (ltb n 10)
+    by-cases (ltb n 10)
     (λ e. rw e)
     (λ e.
     let ten : 10 ≤ n = ltb-false n 10 e in
@@ -46,13 +46,13 @@ unfolding decimalIn tens
 digits-within d zero n h = omega arith
 digits-within zero (suc room) n h = rw (lt-ltb n 10 h) (omega arith)
 digits-within (suc d) (suc room) n h =
-    split (ltb n 10)
+    by-cases (ltb n 10)
     (λ e. rw e (omega arith))
     (λ e.
     let ih : length (decimalIn room (n / 10)) ≤ suc d = digits-within d room (n / 10) (omega arith) in
     rw e (simp length-append (omega arith)))
 
 -- a number of 32 bits has at most ten digits
-pub decimal-short : (n : ℕ) → n < 4294967296 → length (decimal n) ≤ 10
+pub decimal-short : (n : ℕ) → n < 2 ^ 32 → length (decimal n) ≤ 10
 unfolding decimal tens
 decimal-short n h = digits-within 9 (suc n) n (omega arith)

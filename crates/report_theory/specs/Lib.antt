@@ -3,6 +3,7 @@ pub mod Text
 pub mod Report
 pub mod Buffer
 pub mod Decimals
+pub mod Pieces
 pub mod Lines
 pub mod Counted
 pub mod Sample

@@ -1,5 +1,5 @@
 -- Laws of the report's lines: read off three hit tables, one line more, and how long they are.
-use Prim.Native.Nat.{ℕ, zero, suc, _+_, _-_, _*_, _≤_, _<_}
+use Prim.Native.Nat.{ℕ, zero, suc, _-_, _*_, _^_, _≤_, _<_}
 use mathlib.Core.Path.{_≡_, refl, sym, ap, _∙_}
 use mathlib.Core.Bool.{Bool, true, false, _&&_}
 use mathlib.Core.List.{List, [], _∷_, _++_, append-assoc, append-nil}
@@ -13,10 +13,9 @@ use lib.Seq.{take-suc, length-take-le}
 use Rattle.rules.specs.Limits.{capacities, isCapacity, lru, lfu, opt}
 use Rattle.theory.specs.Plain.{hitsAt}
 use Rattle.file_theory.specs.Decoding.{rising}
-use Rattle.report_theory.specs.Text.{text, decimal}
-use Rattle.report_theory.specs.Report.{line, heading, ending, refusedLine, lines}
-use Rattle.report_theory.specs.Buffer.{Wrote, put-nothing, then}
-use Rattle.report_theory.specs.Decimals.{decimal-short}
+use Rattle.report_theory.specs.Report.{line, lines}
+use Rattle.report_theory.specs.Buffer.{Wrote, put-nothing}
+use Rattle.report_theory.specs.Pieces.{longestLine, line-short}
 
 -- A4: entry C - 1 of a hit table is the hits at C; at no frames there are none
 abbrev pub entry : List ℕ → ℕ → ℕ
@@ -24,20 +23,20 @@ entry table c = getD (0 ∷ table) c 0
 
 pub entry-none : (table : List ℕ) (c : ℕ) → c < 1 → entry table c ≡ 0
 entry-none table zero h = refl
-entry-none table (suc c) h = absurd (let w : ⊥ = omega arith in w)
+entry-none table (suc c) h = absurd (omega arith)
 
 pub entry-past : (table : List ℕ) (c : ℕ) → length table < c → entry table c ≡ 0
 entry-past table c h = List·getD-eq-default (0 ∷ table) 0 h
 
 pub entry-at : (table : List ℕ) (c : ℕ) → 1 ≤ c → getD table (c - 1) 0 ≡ entry table c
-entry-at table zero h = absurd (let w : ⊥ = omega arith in w)
+entry-at table zero h = absurd (omega arith)
 entry-at table (suc c) h = rw sub-one
 
 -- every number of a table fits 32 bits
 abbrev pub Fits32 : List ℕ → Type 0
-Fits32 table = (i : ℕ) → getD table i 0 < 4294967296
+Fits32 table = (i : ℕ) → getD table i 0 < 2 ^ 32
 
-pub entry-fits : (table : List ℕ) → Fits32 table → (c : ℕ) → entry table c < 4294967296
+pub entry-fits : (table : List ℕ) → Fits32 table → (c : ℕ) → entry table c < 2 ^ 32
 entry-fits table all zero = omega arith
 entry-fits table all (suc c) = all c
 
@@ -46,51 +45,6 @@ fits-take zero table all j = omega arith
 fits-take (suc i) [] all j = omega arith
 fits-take (suc i) (x ∷ table) all zero = all 0
 fits-take (suc i) (x ∷ table) all (suc j) = fits-take i table (λ k. all (suc k)) j
-
--- a number with the byte behind it: what the code writes in one go
-abbrev pub number : ℕ → ℕ → List ℕ
-number n behind = decimal n ++ (behind ∷ [])
-
-pub line-numbers : (k a b c : ℕ) → line k a b c ≡ number k 32 ++ number a 32 ++ number b 32 ++ number c 10
-unfolding line
-line-numbers k a b c = simp append-assoc
-
-pub length-line : (k a b c : ℕ) → length (line k a b c) ≡ length (number k 32) + length (number a 32) + length (number b 32) + length (number c 10)
-length-line k a b c =
-    ap length (line-numbers k a b c)
-    ∙ omega (
-      arith,
-      length-append (number k 32 ++ number a 32 ++ number b 32) (number c 10),
-      length-append (number k 32 ++ number a 32) (number b 32),
-      length-append (number k 32) (number a 32),
-    )
-
-pub ending-numbers : (n : ℕ) → ending n ≡ text "references " ++ number n 10
-unfolding ending
-ending-numbers n = simp append-assoc
-
-pub refused-numbers : (n : ℕ) → refusedLine n ≡ text "refused " ++ number n 10
-unfolding refusedLine
-refused-numbers n = simp append-assoc
-
--- the report of an accepted file, from the texts that it is put together from
-pub report-put : {first second third last : ℕ} {out out₁ out₂ out₃ out₄ : List ℕ} (body : List ℕ) (n : ℕ) → length heading + length body + 11 ≤ length out
-    → Wrote 0 heading out first out₁ → Wrote first body out₁ second out₂ → Wrote second (text "references ") out₂ third out₃ → Wrote third (number n 10) out₃ last out₄
-    → Wrote 0 (heading ++ body ++ ending n) out last out₄
-report-put body n room a b c d =
-    rw (ending-numbers n, ← append-assoc (heading ++ body) (text "references ") (number n 10))
-    (then (omega (arith, length-append heading body, length-append (heading ++ body) (text "references ")))
-    (then (omega (arith, length-append heading body)) (then (omega arith) a b) c) d)
-
--- one line is at most four numbers of ten digits, three spaces and a newline
-pub line-short : (k a b c : ℕ) → k < 4294967296 → a < 4294967296 → b < 4294967296 → c < 4294967296 → length (line k a b c) ≤ 44
-unfolding line
-line-short k a b c hk ha hb hc =
-    simp length-append
-    (omega (arith, decimal-short k hk, decimal-short a ha, decimal-short b hb, decimal-short c hc))
-
-pub number-short : (n behind : ℕ) → n < 4294967296 → length (number n behind) ≤ 11
-number-short n behind h = omega (arith, length-append (decimal n) (behind ∷ []), decimal-short n h)
 
 -- the lines of some capacities, read off the tables of the three policies
 module _ (a b c : List ℕ) where
@@ -110,7 +64,7 @@ module _ (a b c : List ℕ) where
       → tableLines (take (suc i) ks) ≡ tableLines (take i ks) ++ line (getD ks i 0) (entry a (getD ks i 0)) (entry b (getD ks i 0)) (entry c (getD ks i 0))
   lines-more ks i h = rw (take-suc ks i 0 h) (lines-snoc (take i ks) (getD ks i 0))
 
-  pub lines-short : Fits32 a → Fits32 b → Fits32 c → (ks : List ℕ) → Fits32 ks → length (tableLines ks) ≤ 44 * length ks
+  pub lines-short : Fits32 a → Fits32 b → Fits32 c → (ks : List ℕ) → Fits32 ks → length (tableLines ks) ≤ longestLine * length ks
   unfolding tableLines
   lines-short fa fb fc [] f = omega arith
   lines-short fa fb fc (k ∷ ks) f =
@@ -122,7 +76,7 @@ module _ (a b c : List ℕ) where
   no-lines at out = record { place = sym (add-zero at); buffer = sym (put-nothing at out) }
 
   -- the lines so far leave room for one more
-  pub lines-room : Fits32 a → Fits32 b → Fits32 c → (ks : List ℕ) → Fits32 ks → (i : ℕ) → i ≤ length ks → length (tableLines (take i ks)) ≤ 44 * i
+  pub lines-room : Fits32 a → Fits32 b → Fits32 c → (ks : List ℕ) → Fits32 ks → (i : ℕ) → i ≤ length ks → length (tableLines (take i ks)) ≤ longestLine * i
   lines-room fa fb fc ks f i h =
       let l : length (take i ks) ≡ i = length-take-le i ks h in
       omega (arith, lines-short fa fb fc (take i ks) (fits-take i ks f))

@@ -1,7 +1,7 @@
 -- `report_text::put_refused`: a word, then the number.
 use native.Mathlib.Omega.{arith}
 use Rattle.report_theory.specs.Buffer.{then}
-use Rattle.report_theory.specs.Lines.{number-short, refused-numbers}
+use Rattle.report_theory.specs.Pieces.{number-short, refused-numbers}
 use borrow.Author.Needs.{needs}
 use Rattle.report_text.proofs.put_refused.Statement.{statement}
 use Rattle.report_text.proofs.put_refused.Tie as tie

@@ -1,15 +1,16 @@
--- `report_text::put_report`: the first line, the lines of the capacities, a word and a number, one after the other; no line is longer than 44 bytes.
+-- `report_text::put_report`: the first line, the lines of the capacities, a word and a number, one after the other; no line is longer than the longest.
 use Prim.Native.Nat.{_*_, _≤_}
 use native.Mathlib.Omega.{arith}
 use lib.ListN.{length}
-use Rattle.report_theory.specs.Lines.{tableLines, lines-short, number-short, report-put}
+use Rattle.report_theory.specs.Pieces.{number-short, report-put, longestLine}
+use Rattle.report_theory.specs.Lines.{tableLines, lines-short}
 use borrow.Author.Needs.{needs}
 use Rattle.report_text.proofs.put_report.Statement.{statement}
 use Rattle.report_text.proofs.put_report.Tie as tie
 
--- the lines are at most 44 bytes each
+-- the lines take at most the longest line each
 lines-bound : (c : tie.After-put-lines)
-    → (let a = c .before .before .before .before .before .before .before .before .before .args in length (tableLines (a .lru .now) (a .lfu .now) (a .opt .now) (a .capacities .now)) ≤ 44 * length (a .capacities .now))
+    → (let a = c .before .before .before .before .before .before .before .before .before .args in length (tableLines (a .lru .now) (a .lfu .now) (a .opt .now) (a .capacities .now)) ≤ longestLine * length (a .capacities .now))
 lines-bound c =
     let known = c .before .before .before .before .before in
     let a = known .before .before .before .before .args in

@@ -1,6 +1,6 @@
--- `write::put_capacity`: a line of numbers below 2 ^ 32 is at most 44 bytes.
+-- `write::put_capacity`: a line of numbers below 2 ^ 32 fits the longest line.
 use native.Mathlib.Omega.{arith}
-use Rattle.report_theory.specs.Lines.{line-short}
+use Rattle.report_theory.specs.Pieces.{line-short}
 use borrow.Author.Needs.{needs}
 use Rattle.report_text.proofs.write.put_capacity.Statement.{statement}
 use Rattle.report_text.proofs.write.put_capacity.Tie as tie

@@ -3,7 +3,7 @@ use mathlib.Core.List.{_++_}
 use native.Mathlib.Omega.{arith}
 use lib.ListN.{length-append}
 use Rattle.report_theory.specs.Buffer.{then}
-use Rattle.report_theory.specs.Lines.{number, line-numbers, length-line}
+use Rattle.report_theory.specs.Pieces.{number, line-numbers, length-line}
 use borrow.Author.Needs.{needs}
 use Rattle.report_text.proofs.write.put_line.Statement.{statement}
 use Rattle.report_text.proofs.write.put_line.Tie as tie

@@ -7,6 +7,7 @@ use borrow.Author.Needs.{needs}
 use lib.ListN.{length, take}
 use lib.Seq.{take-length}
 use Rattle.report_theory.specs.Buffer.{Wrote, then}
+use Rattle.report_theory.specs.Pieces.{longestLine}
 use Rattle.report_theory.specs.Lines.{tableLines, no-lines, lines-more, lines-room}
 use Rattle.report_text.proofs.write.put_lines.Statement.{statement}
 use Rattle.report_text.proofs.write.put_lines.Tie as tie
@@ -17,9 +18,9 @@ Inv-loop out₀ at capacities lru lfu opt i₀ place₀ out i place = (i ≤ len
 abbrev μ-loop : tie.MeasureT-loop
 μ-loop out₀ at capacities lru lfu opt i₀ place₀ out i place = length capacities - i
 
--- the lines that are put so far take at most 44 bytes each
+-- the lines that are put so far take at most the longest line each
 room-now : (c : tie.At-loop Inv-loop μ-loop)
-    → (let a = c .before .before .before .before .before .before .args in length (tableLines (a .lru .now) (a .lfu .now) (a .opt .now) (take (c .loop .i) (a .capacities .now))) ≤ 44 * c .loop .i)
+    → (let a = c .before .before .before .before .before .before .args in length (tableLines (a .lru .now) (a .lfu .now) (a .opt .now) (take (c .loop .i) (a .capacities .now))) ≤ longestLine * c .loop .i)
 room-now c =
     let known = c .before in
     let a = known .before .before .before .before .before .args in
