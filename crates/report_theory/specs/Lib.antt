@@ -5,5 +5,5 @@ pub mod Buffer
 pub mod Decimals
 pub mod Pieces
 pub mod Lines
-pub mod Counted
+pub mod Outcomes
 pub mod Sample

@@ -1,6 +1,6 @@
 -- `report_text::report`: what the reader's answer tells picks the report that the definition has.
 use Rattle.file_theory.specs.Callers.{accepted-says, accepted-ready, refused-says}
-use Rattle.report_theory.specs.Counted.{report-refused, report-accepted}
+use Rattle.report_theory.specs.Outcomes.{report-refused, report-accepted}
 use Rattle.report_theory.specs.Buffer.{printed}
 use borrow.Author.Needs.{needs}
 use Rattle.report_text.proofs.report.Statement.{statement}
