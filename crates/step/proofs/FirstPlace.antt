@@ -49,16 +49,16 @@ part-is : (y : ℕ) (l : List ℕ) → midOf 1 (length (y ∷ l) - 1) (y ∷ l) 
 part-is y l = rw (all-but-first y l, take-length l)
 
 module _ {above : Priority} {old new : ℕ} where
-  pub place-empty : (l : List ℕ) → length l ≡ 0 → Placed above old new l l (record { depth = 0; last = new })
+  pub place-empty : {l : List ℕ} → length l ≡ 0 → Placed above old new l l (record { depth = 0; last = new })
   unfolding put depthFrom
-  place-empty [] h = record { places = refl; depth-is = refl; last-is = refl }
-  place-empty (y ∷ l) h = absurd (omega arith)
+  place-empty {l = []} h = record { places = refl; depth-is = refl; last-is = refl }
+  place-empty {l = y ∷ l} h = absurd (omega arith)
 
-  pub place-first : (l : List ℕ) → 0 < length l → getD l 0 0 ≡ old
+  pub place-first : {l : List ℕ} → 0 < length l → getD l 0 0 ≡ old
       → Placed above old new l (set l 0 new) (record { depth = 1; last = 0 })
   unfolding put depthFrom
-  place-first [] h e = absurd (omega arith)
-  place-first (y ∷ l) h e =
+  place-first {l = []} h e = absurd (omega arith)
+  place-first {l = y ∷ l} h e =
       record {
         places = rw (eq-eqb y old e, take-length l);
         depth-is = rw (eq-eqb y old e);
@@ -66,12 +66,12 @@ module _ {above : Priority} {old new : ℕ} where
       }
 
   -- the list after place 1 is handed on as a part, and the old entry is not in it
-  pub place-missing : (l after : List ℕ) (r : Carried) → 0 < length l → (getD l 0 0 ≡ old → ⊥)
+  pub place-missing : {l after : List ℕ} {r : Carried} → 0 < length l → (getD l 0 0 ≡ old → ⊥)
       → Carrying above old (getD l 0 0) (midOf 1 (length l - 1) l) after r → r .depth ≡ 0
       → Placed above old new l (set (putMid 1 (length l - 1) l after) 0 new) (record { depth = 0; last = r .last })
   unfolding put depthFrom
-  place-missing [] after r h n w d = absurd (omega arith)
-  place-missing (y ∷ l) after r h n w d =
+  place-missing {l = []} h n w d = absurd (omega arith)
+  place-missing {l = y ∷ l} {after} {r} h n w d =
       let v : Carrying above old y l after r = rw (part-is y l) at w in
       record {
         places = rw (put-back new y l after, ne-eqb y old n, v .places);
@@ -80,12 +80,12 @@ module _ {above : Priority} {old new : ℕ} where
       }
 
   -- the old entry is in the part
-  pub place-found : (l after : List ℕ) (r : Carried) → 0 < length l → (getD l 0 0 ≡ old → ⊥)
+  pub place-found : {l after : List ℕ} {r : Carried} → 0 < length l → (getD l 0 0 ≡ old → ⊥)
       → Carrying above old (getD l 0 0) (midOf 1 (length l - 1) l) after r → (r .depth ≡ 0 → ⊥)
       → Placed above old new l (set (putMid 1 (length l - 1) l after) 0 new) (record { depth = r .depth + 1; last = 0 })
   unfolding put depthFrom
-  place-found [] after r h n w d = absurd (omega arith)
-  place-found (y ∷ l) after r h n w d =
+  place-found {l = []} h n w d = absurd (omega arith)
+  place-found {l = y ∷ l} {after} {r} h n w d =
       let v : Carrying above old y l after r = rw (part-is y l) at w in
       let there : depth old l ≡ 0 → ⊥ = λ q. d (v .depth-is ∙ q) in
       record {

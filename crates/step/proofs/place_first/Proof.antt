@@ -8,7 +8,7 @@ use Rattle.step.proofs.place_first.Statement.{statement}
 use Rattle.step.proofs.place_first.Tie as tie
 
 returns : tie.Need-returns
-returns c = place-empty (c .before .before .args .list .now) (c .if1 .taken)
+returns c = place-empty (c .if1 .taken)
 
 slice-read-first : tie.Need-slice-read-first
 slice-read-first c = search needs
@@ -20,7 +20,7 @@ same-length : tie.Need-same-length
 same-length c = search needs
 
 returns-2 : tie.Need-returns-2
-returns-2 c = place-first (c .before .before .before .before .args .list .now) (omega arith) (c .if2 .taken)
+returns-2 c = place-first (omega arith) (c .if2 .taken)
 
 sub-carry-lower : tie.Need-sub-carry-lower
 sub-carry-lower c = search needs
@@ -44,13 +44,13 @@ same-length-2 : tie.Need-same-length-2
 same-length-2 c = search needs
 
 returns-3 : tie.Need-returns-3
-returns-3 c = place-missing (c .before .before .before .before .before .before .before .before .before .before .args .list .now) (c .before .before .before .before .carry-lower .last .0) (c .before .before .before .before .carry-lower .result) (omega arith) (c .before .before .before .before .before .before .if2 .left) (c .before .before .before .before .carry-lower .ensures) (c .if3 .taken)
+returns-3 c = place-missing (omega arith) (c .before .before .before .before .before .before .if2 .left) (c .before .before .before .before .carry-lower .ensures) (c .if3 .taken)
 
 same-length-3 : tie.Need-same-length-3
 same-length-3 c = search needs
 
 returns-4 : tie.Need-returns-4
-returns-4 c = place-found (c .before .before .before .before .before .before .before .before .before .before .before .args .list .now) (c .before .before .before .before .before .carry-lower .last .0) (c .before .before .before .before .before .carry-lower .result) (omega arith) (c .before .before .before .before .before .before .before .if2 .left) (c .before .before .before .before .before .carry-lower .ensures) (c .before .if3 .left)
+returns-4 c = place-found (omega arith) (c .before .before .before .before .before .before .before .if2 .left) (c .before .before .before .before .before .carry-lower .ensures) (c .before .if3 .left)
 
 pub place-first-spec : {M : Type 1} → statement M
 place-first-spec =
