@@ -1,0 +1,80 @@
+//! Trace files and their reports: valid ones, ones broken on purpose in several ways at once, cut ones and plain noise.
+
+use super::{same, Subject, Tally};
+use crate::gen;
+use crate::model::file::{faults, read, report};
+use crate::rng::Rng;
+use crate::subject::Files;
+
+pub fn subject<L: Files>() -> Subject {
+    Subject {
+        name: "file",
+        short: 4_000,
+        full: 60_000,
+        case: case::<L>,
+        refusals: &[8, 9, 2, 10, 3],
+        pairs: &[(9, 8), (9, 2), (9, 10), (9, 3), (2, 8), (2, 10), (2, 3), (10, 3)],
+    }
+}
+
+fn case<L: Files>(rng: &mut Rng, tally: &mut Tally) -> Result<(), String> {
+    let bytes = match rng.below(10) {
+        0 => (0..rng.below(40)).map(|_| rng.below(256) as u8).collect(),
+        1 => (0..rng.below(40)).map(|_| rng.below(3) as u8).collect(),
+        2 | 3 => {
+            let whole = file(rng, 0);
+            let cut = rng.below(whole.len());
+            whole[..cut].to_vec()
+        }
+        4 | 5 => file(rng, 0),
+        _ => {
+            let bits = rng.below(32);
+            file(rng, bits)
+        }
+    };
+    let found = faults(&bytes);
+    let text = format!("file of {} bytes {:?}", bytes.len(), &bytes[..bytes.len().min(24)]);
+    same(&text, L::read(&bytes), read(&bytes))?;
+    same(&format!("report of {text}"), L::report(&bytes), report(&bytes).into_bytes())?;
+    if found.is_empty() {
+        tally.items += bytes.len() as u64;
+    }
+    tally.note(&found);
+    Ok(())
+}
+
+/// A file that is broken in the ways that the bits name.
+fn file(rng: &mut Rng, bits: usize) -> Vec<u8> {
+    let with = |bit: usize| bits >> bit & 1 == 1;
+    let mut capacities: Vec<u16> = (1..=64).filter(|_| rng.percent(20)).collect();
+    if with(0) {
+        spoil_capacities(rng, &mut capacities);
+    }
+    let length = if with(1) { rng.pick(&[4097, 4100]) } else { gen::length(rng) };
+    let mut references = gen::any_trace(rng, length);
+    if with(2) && length > 0 {
+        gen::spoil(rng, &mut references);
+    }
+    let mut bytes = Vec::new();
+    for section in [&capacities, &references] {
+        bytes.extend((section.len() as u16).to_le_bytes());
+        section.iter().for_each(|value| bytes.extend(value.to_le_bytes()));
+    }
+    if with(3) {
+        (0..rng.within(1, 5)).for_each(|i| bytes.push(i as u8));
+    }
+    if with(4) {
+        bytes.truncate(bytes.len() - rng.below(bytes.len().min(20)));
+    }
+    bytes
+}
+
+fn spoil_capacities(rng: &mut Rng, capacities: &mut Vec<u16>) {
+    match rng.below(5) {
+        0 => capacities.insert(0, 0),
+        1 => capacities.push(rng.pick(&[65, 66, 256, 65_535])),
+        2 => capacities.extend([7, 7]),
+        3 => capacities.extend([9, 3]),
+        _ => *capacities = (1..=rng.pick(&[65, 66, 100])).collect(),
+    }
+}
