@@ -1,12 +1,12 @@
 //! A session that changes in place.
 
-use super::walk::{List, LIMIT, PAGES};
+use super::walk::{lowest_keys, List, LIMIT, PAGES, RANK};
 
 #[derive(Clone)]
 pub struct Session {
     list: List,
     frequent: bool,
-    count: [u16; PAGES],
+    keys: [u32; PAGES],
     depths: [u32; LIMIT + 1],
     accepted: usize,
 }
@@ -22,7 +22,7 @@ impl Session {
         Ok(Session {
             list: List::new(k),
             frequent: policy == 1,
-            count: [0; PAGES],
+            keys: lowest_keys(),
             depths: [0; LIMIT + 1],
             accepted: 0,
         })
@@ -38,13 +38,12 @@ impl Session {
             return Err(3);
         }
         let depth = if self.frequent {
-            let count = &self.count;
-            let rank = |page: u16| count[usize::from(page) % PAGES];
-            self.list.carry(page, |a, b| rank(a) > rank(b) || rank(a) == rank(b) && a < b)
+            let depth = self.list.carry(page, &self.keys);
+            self.keys[usize::from(page)] += RANK;
+            depth
         } else {
             self.list.shift(page)
         };
-        self.count[usize::from(page)] += 1;
         self.depths[depth] += 1;
         self.accepted += 1;
         Ok(depth)

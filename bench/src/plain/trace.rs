@@ -1,6 +1,8 @@
 //! Whole traces in one pass, all capacities at once, with the same refusals as the proved count.
 
-use super::walk::{List, LIMIT, PAGES};
+use super::walk::{key, lowest_keys, List, LIMIT, PAGES, RANK};
+
+const REFERENCES: usize = 4096;
 
 /// 0, or the number of the refusal and its place.
 #[inline(never)]
@@ -11,7 +13,7 @@ pub fn count(trace: &[u16], policy: u8, k: usize, hits: &mut [u32]) -> (u8, usiz
     if k < 1 || k > LIMIT {
         return (1, 0);
     }
-    if trace.len() > 4096 {
+    if trace.len() > REFERENCES {
         return (2, 0);
     }
     if hits.len() < k {
@@ -48,30 +50,28 @@ fn lru(trace: &[u16], k: usize) -> Depths {
 fn lfu(trace: &[u16], k: usize) -> Depths {
     let mut depths = [0; LIMIT + 1];
     let mut list = List::new(k);
-    let mut count = [0u16; PAGES];
+    let mut keys = lowest_keys();
     for &page in trace {
-        let rank = |page: u16| count[usize::from(page) % PAGES];
-        depths[list.carry(page, |a, b| rank(a) > rank(b) || rank(a) == rank(b) && a < b)] += 1;
-        count[usize::from(page)] += 1;
+        depths[list.carry(page, &keys)] += 1;
+        keys[usize::from(page)] += RANK;
     }
     depths
 }
 
-/// The next reference to each page is found for all references in one backward pass.
+/// The next reference to each page is found for all references in one backward pass; sooner ranks higher.
 fn opt(trace: &[u16], k: usize) -> Depths {
-    const NEVER: u16 = u16::MAX;
-    let mut after = [NEVER; 4096];
-    let mut next = [NEVER; PAGES];
+    let mut after = [0; REFERENCES];
+    let mut keys = lowest_keys();
     for (i, &page) in trace.iter().enumerate().rev() {
-        after[i] = next[usize::from(page)];
-        next[usize::from(page)] = i as u16;
+        let page = usize::from(page);
+        after[i] = keys[page];
+        keys[page] = key(REFERENCES - i, page);
     }
     let mut depths = [0; LIMIT + 1];
     let mut list = List::new(k);
     for (i, &page) in trace.iter().enumerate() {
-        let rank = |page: u16| next[usize::from(page) % PAGES];
-        depths[list.carry(page, |a, b| rank(a) < rank(b) || rank(a) == rank(b) && a < b)] += 1;
-        next[usize::from(page)] = after[i];
+        depths[list.carry(page, &keys)] += 1;
+        keys[usize::from(page)] = after[i];
     }
     depths
 }

@@ -33,22 +33,34 @@ impl List {
         found.map_or(0, |at| at + 1)
     }
 
-    /// Any priority: `higher(a, b)` says that page a stays and page b is carried on. Answers the depth, or 0.
+    /// Any priority: of two pages the one with the larger key stays, and no two pages have the same key. Answers the
+    /// depth, or 0.
     #[inline]
-    pub fn carry(&mut self, page: u16, higher: impl Fn(u16, u16) -> bool) -> usize {
+    pub fn carry(&mut self, page: u16, keys: &[u32; PAGES]) -> usize {
+        let key = |page: u16| keys[usize::from(page) % PAGES];
         let length = self.length;
-        let mut carried = page;
-        for (i, place) in self.places[..length].iter_mut().enumerate() {
+        if length == 0 {
+            self.places[0] = page;
+            self.length = 1;
+            return 0;
+        }
+        let mut carried = self.places[0];
+        if carried == page {
+            return 1;
+        }
+        self.places[0] = page;
+        let mut carried_key = key(carried);
+        for (i, place) in self.places[..length].iter_mut().enumerate().skip(1) {
             let here = *place;
             if here == page {
                 *place = carried;
                 return i + 1;
             }
-            // place 1 always takes the page; from there on the higher one stays
-            if i == 0 || higher(carried, here) {
-                *place = carried;
-                carried = here;
-            }
+            let here_key = key(here);
+            let stays = here_key > carried_key;
+            *place = if stays { here } else { carried };
+            carried = if stays { carried } else { here };
+            carried_key = carried_key.min(here_key);
         }
         if length < self.limit {
             self.places[length] = carried;
@@ -57,3 +69,17 @@ impl List {
         0
     }
 }
+
+/// A rank and, below it, the tie rule: the smaller page number is higher.
+#[inline]
+pub fn key(rank: usize, page: usize) -> u32 {
+    (rank * PAGES + (PAGES - 1 - page)) as u32
+}
+
+/// The keys of pages that all have rank 0.
+pub fn lowest_keys() -> [u32; PAGES] {
+    std::array::from_fn(|page| key(0, page))
+}
+
+/// What one rank more adds to a key.
+pub const RANK: u32 = PAGES as u32;
