@@ -1,14 +1,17 @@
 //! The harness: compares the proved functions with an independent simulator, and times them beside plain Rust.
 
 mod check;
+mod ffi;
 mod gen;
 mod model;
+mod of_plain;
+mod of_proved;
 mod plain;
 mod rng;
 mod subject;
-mod of_plain;
 
 use check::Subject;
+use std::io::Write;
 use std::process::exit;
 use std::time::Instant;
 
@@ -16,7 +19,7 @@ const USAGE: &str = "usage:
   harness check [SUBJECT] [--full] [--seed N] [--only K] [--plain]
   harness time
 
-SUBJECT is trace, list, session, row or file; without one all are checked. --full is the long round, --only runs one case
+SUBJECT is trace, list, session, row, file or report; without one all are checked. --full is the long round, --only runs one case
 of a subject again, and --plain checks the plain Rust versions in place of the proved ones.";
 
 fn main() {
@@ -60,7 +63,7 @@ impl Wanted {
     }
 
     fn run(&self) -> Result<(), String> {
-        let mut subjects = of_plain::subjects();
+        let mut subjects = if self.plain { of_plain::subjects() } else { of_proved::subjects() };
         if let Some(name) = &self.subject {
             subjects.retain(|subject| subject.name == name);
         }
@@ -73,6 +76,8 @@ impl Wanted {
     }
 
     fn round(&self, subject: &Subject) -> Result<(), String> {
+        print!("{}: ", subject.name);
+        let _ = std::io::stdout().flush();
         let began = Instant::now();
         let cases = if self.full { subject.full } else { subject.short };
         let (from, to) = self.only.map_or((0, cases), |case| (case, case + 1));
@@ -82,8 +87,7 @@ impl Wanted {
         }
         let refusals: Vec<String> = tally.refusals.iter().map(|(number, times)| format!("{number}:{times}")).collect();
         println!(
-            "{}: {} cases, {} answers the same, {} items; refusals {}; {} pairs at once; {:.1} s",
-            subject.name,
+            "{} cases, {} answers the same, {} items; refusals {}; {} pairs at once; {:.1} s",
             to - from,
             tally.answers,
             tally.items,

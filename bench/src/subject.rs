@@ -37,5 +37,8 @@ pub trait Rows {
 
 pub trait Files {
     fn read(bytes: &[u8]) -> Result<File, Refusal>;
+}
+
+pub trait Reports {
     fn report(bytes: &[u8]) -> Vec<u8>;
 }

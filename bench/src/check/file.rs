@@ -4,21 +4,46 @@ use super::{same, Subject, Tally};
 use crate::gen;
 use crate::model::file::{faults, read, report};
 use crate::rng::Rng;
-use crate::subject::Files;
+use crate::subject::{Files, Reports};
 
 pub fn subject<L: Files>() -> Subject {
-    Subject {
-        name: "file",
-        short: 4_000,
-        full: 60_000,
-        case: case::<L>,
-        refusals: &[8, 9, 2, 10, 3],
-        pairs: &[(9, 8), (9, 2), (9, 10), (9, 3), (2, 8), (2, 10), (2, 3), (10, 3)],
-    }
+    Subject { name: "file", short: 10_000, full: 200_000, case: file_case::<L>, refusals: REFUSALS, pairs: PAIRS }
 }
 
-fn case<L: Files>(rng: &mut Rng, tally: &mut Tally) -> Result<(), String> {
-    let bytes = match rng.below(10) {
+pub fn reports<L: Reports>() -> Subject {
+    Subject { name: "report", short: 2_000, full: 40_000, case: report_case::<L>, refusals: REFUSALS, pairs: PAIRS }
+}
+
+const REFUSALS: &[u8] = &[8, 9, 2, 10, 3];
+const PAIRS: &[(u8, u8)] = &[(9, 8), (9, 2), (9, 10), (9, 3), (2, 8), (2, 10), (2, 3), (10, 3)];
+
+fn file_case<L: Files>(rng: &mut Rng, tally: &mut Tally) -> Result<(), String> {
+    let bytes = any_file(rng);
+    note(&bytes, tally);
+    same(&shown("file", &bytes), L::read(&bytes), read(&bytes))
+}
+
+fn report_case<L: Reports>(rng: &mut Rng, tally: &mut Tally) -> Result<(), String> {
+    let bytes = any_file(rng);
+    note(&bytes, tally);
+    let got = String::from_utf8_lossy(&L::report(&bytes)).into_owned();
+    same(&shown("report of a file", &bytes), got, report(&bytes))
+}
+
+fn shown(what: &str, bytes: &[u8]) -> String {
+    format!("{what} of {} bytes that begins {:?}", bytes.len(), &bytes[..bytes.len().min(24)])
+}
+
+fn note(bytes: &[u8], tally: &mut Tally) {
+    let found = faults(bytes);
+    if found.is_empty() {
+        tally.items += bytes.len() as u64;
+    }
+    tally.note(&found);
+}
+
+fn any_file(rng: &mut Rng) -> Vec<u8> {
+    match rng.below(10) {
         0 => (0..rng.below(40)).map(|_| rng.below(256) as u8).collect(),
         1 => (0..rng.below(40)).map(|_| rng.below(3) as u8).collect(),
         2 | 3 => {
@@ -31,16 +56,7 @@ fn case<L: Files>(rng: &mut Rng, tally: &mut Tally) -> Result<(), String> {
             let bits = rng.below(32);
             file(rng, bits)
         }
-    };
-    let found = faults(&bytes);
-    let text = format!("file of {} bytes {:?}", bytes.len(), &bytes[..bytes.len().min(24)]);
-    same(&text, L::read(&bytes), read(&bytes))?;
-    same(&format!("report of {text}"), L::report(&bytes), report(&bytes).into_bytes())?;
-    if found.is_empty() {
-        tally.items += bytes.len() as u64;
     }
-    tally.note(&found);
-    Ok(())
 }
 
 /// A file that is broken in the ways that the bits name.

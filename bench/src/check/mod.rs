@@ -54,6 +54,28 @@ pub fn same_list(shown: (usize, Vec<u16>), want: &[u16]) -> Result<(), String> {
     same("places past the list's length", places[length..].iter().all(|&page| page == 0), true)
 }
 
+/// How to run a case again; also said where the case panics.
+struct Again {
+    name: &'static str,
+    seed: u64,
+    case: u64,
+}
+
+impl Again {
+    fn text(&self) -> String {
+        let Again { name, seed, case } = self;
+        format!("{name}: case {case} FAILED; run it again: bench/check {name} --seed {seed} --only {case}")
+    }
+}
+
+impl Drop for Again {
+    fn drop(&mut self) {
+        if std::thread::panicking() {
+            eprintln!("{}", self.text());
+        }
+    }
+}
+
 /// A subject: its name, how many cases a short and a full round have, one case, and the refusals and the pairs of them
 /// that a round must have met.
 pub struct Subject {
@@ -71,10 +93,8 @@ impl Subject {
         let mut tally = Tally::default();
         for case in from..to {
             let mut rng = Rng::of_case(seed, self.name, case);
-            (self.case)(&mut rng, &mut tally).map_err(|fault| {
-                let name = self.name;
-                format!("{name}, case {case}: {fault}\nrun it again: harness check {name} --seed {seed} --only {case}")
-            })?;
+            let again = Again { name: self.name, seed, case };
+            (self.case)(&mut rng, &mut tally).map_err(|fault| format!("{fault}\n{}", again.text()))?;
         }
         Ok(tally)
     }
