@@ -1,3 +1,4 @@
 -- What a reader must believe about numbers: the limits and the refusals, each once and by name.
 pub mod Limits
 pub mod Refusals
+pub mod Case

@@ -1,0 +1,44 @@
+-- What a list step promises, for any memory: the places in use after it, everything behind them, and the depth.
+use Prim.Native.Nat.{ℕ, suc, min, max}
+use mathlib.Core.Bool.{Bool, cond, _&&_}
+use mathlib.Core.Path.{_≡_}
+use mathlib.Core.List.{List, [], _∷_, _++_}
+use lib.Dec.{ltb, eqb}
+use lib.ListN.{length, take, drop, getD, set}
+use Rattle.theory.specs.Priority.{Priority}
+use Rattle.theory.specs.OnePass.{carry, depth}
+use Rattle.kept.specs.Entries.{put}
+use Rattle.step.specs.declared.Carried.{Carried}
+use Rattle.step.specs.declared.Step.{Step}
+
+-- The places in use after a reference to the page whose entry is `old` and is `new` from now on: of the first n places of the
+-- memory, grown by what is left over if the limit k and the memory have room for it.
+unfoldable pub next : Priority → ℕ → ℕ → ℕ → ℕ → List ℕ → List ℕ
+next above k old new n memory =
+    take (max (length (take n memory)) (min k (length memory))) (put above old new (take n memory))
+
+pub record Stepped (above : Priority) (k old new n : ℕ) (before after : List ℕ) (r : Step) : Type 0 where
+  pub places : after ≡ next above k old new n before ++ drop (length (next above k old new n before)) before
+  pub depth-is : r .depth ≡ depth old (take n before)
+  pub length-is : r .length ≡ length (next above k old new n before)
+
+-- `first` carried down a list: as many places as there were, and what does not fit them
+pub record Carrying (above : Priority) (old first : ℕ) (before after : List ℕ) (r : Carried) : Type 0 where
+  pub places : after ≡ take (length before) (carry above old first before)
+  pub depth-is : r .depth ≡ depth old before
+  pub last-is : r .last ≡ getD (carry above old first before) (length before) 0
+
+-- a reference to a list: as many places as there were, and what does not fit them
+pub record Placed (above : Priority) (old new : ℕ) (before after : List ℕ) (r : Carried) : Type 0 where
+  pub places : after ≡ take (length before) (put above old new before)
+  pub depth-is : r .depth ≡ depth old before
+  pub last-is : r .last ≡ getD (put above old new before) (length before) 0
+
+-- what is left over is put behind the `used` places, if it is missed and there is room
+abbrev pub grows : ℕ → ℕ → Carried → List ℕ → Bool
+grows used k c memory = eqb (c .depth) 0 && (ltb used k && ltb used (length memory))
+
+pub record Settled (used k : ℕ) (c : Carried) (before after : List ℕ) (r : Step) : Type 0 where
+  pub places : after ≡ cond (grows used k c before) (set before used (c .last)) before
+  pub depth-is : r .depth ≡ c .depth
+  pub length-is : r .length ≡ cond (grows used k c before) (suc used) used

@@ -1,0 +1,1 @@
+// No code: the definitions and theorems of specs/ on which every counting crate stands.
