@@ -7,7 +7,7 @@ use crate::rng::Rng;
 use crate::subject::{Files, Reports};
 
 pub fn subject<L: Files>() -> Subject {
-    Subject { name: "file", short: 10_000, full: 200_000, case: file_case::<L>, refusals: REFUSALS, pairs: PAIRS }
+    Subject { name: "file", short: 20_000, full: 400_000, case: file_case::<L>, refusals: REFUSALS, pairs: PAIRS }
 }
 
 pub fn reports<L: Reports>() -> Subject {

@@ -9,8 +9,8 @@ use crate::subject::Lists;
 pub fn subject<L: Lists>() -> Subject {
     Subject {
         name: "list",
-        short: 3_000,
-        full: 60_000,
+        short: 10_000,
+        full: 100_000,
         case: case::<L>,
         refusals: &[5, 1, 2, 3, 14],
         pairs: &[(5, 1), (5, 2), (5, 3), (5, 14), (1, 2), (1, 3), (1, 14), (2, 3), (2, 14), (3, 14)],

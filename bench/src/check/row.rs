@@ -8,8 +8,8 @@ use crate::subject::Rows;
 pub fn subject<L: Rows>() -> Subject {
     Subject {
         name: "row",
-        short: 1_500,
-        full: 30_000,
+        short: 5_000,
+        full: 100_000,
         case: case::<L>,
         refusals: &[20, 21, 22, 23, 24, 25, 26, 27],
         pairs: &[(20, 25)],

@@ -10,8 +10,8 @@ use crate::subject::Sessions;
 pub fn subject<L: Sessions>() -> Subject {
     Subject {
         name: "session",
-        short: 1_500,
-        full: 30_000,
+        short: 5_000,
+        full: 100_000,
         case: case::<L>,
         refusals: &[5, 1, 6, 3, 7],
         pairs: &[(5, 1), (6, 3)],

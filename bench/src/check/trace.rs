@@ -9,8 +9,8 @@ use crate::subject::Counts;
 pub fn subject<L: Counts>() -> Subject {
     Subject {
         name: "trace",
-        short: 4_000,
-        full: 120_000,
+        short: 20_000,
+        full: 200_000,
         case: case::<L>,
         refusals: &[5, 1, 2, 4, 3],
         pairs: &[(5, 1), (5, 2), (5, 4), (5, 3), (1, 2), (1, 4), (1, 3), (2, 4), (2, 3), (4, 3)],
