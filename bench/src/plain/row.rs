@@ -19,6 +19,8 @@ const NEXT: [[u8; 5]; 3] = [[IDLE, 22, 22, 22, 22], [21, IDLE, BUSY, 24, ABSENT]
 #[derive(Clone)]
 pub struct Row {
     slots: [u8; SLOTS],
+    /// Which slot a held frame has.
+    places: [u8; 64],
     states: [u8; 64],
     front: usize,
     held: usize,
@@ -26,7 +28,7 @@ pub struct Row {
 
 impl Row {
     pub fn new() -> Row {
-        Row { slots: [EMPTY; SLOTS], states: [ABSENT; 64], front: SLOTS, held: 0 }
+        Row { slots: [EMPTY; SLOTS], places: [0; 64], states: [ABSENT; 64], front: SLOTS, held: 0 }
     }
 
     /// The slots examined, or the number of the refusal.
@@ -63,9 +65,7 @@ impl Row {
     }
 
     fn empty(&mut self, frame: u8) {
-        if let Some(slot) = self.slots[self.front..].iter_mut().find(|slot| **slot == frame) {
-            *slot = EMPTY;
-        }
+        self.slots[usize::from(self.places[usize::from(frame)])] = EMPTY;
     }
 
     fn place(&mut self, frame: u8) -> usize {
@@ -75,8 +75,13 @@ impl Row {
             examined = SLOTS;
         }
         self.front -= 1;
-        self.slots[self.front] = frame;
+        self.seat(self.front, frame);
         examined
+    }
+
+    fn seat(&mut self, slot: usize, frame: u8) {
+        self.slots[slot] = frame;
+        self.places[usize::from(frame)] = slot as u8;
     }
 
     fn squeeze(&mut self) {
@@ -86,7 +91,7 @@ impl Row {
             if frame != EMPTY {
                 self.slots[from] = EMPTY;
                 to -= 1;
-                self.slots[to] = frame;
+                self.seat(to, frame);
             }
         }
         self.front = to;
