@@ -21,7 +21,62 @@ impl Told {
     }
 }
 
+/// A row call's answer: 0, or the number of a refusal; the slots examined; the refusal's place.
+#[repr(C)]
+#[derive(Clone, Copy)]
+pub struct Replied {
+    pub number: u8,
+    pub examined: u8,
+    pub place: usize,
+}
+
+/// A victim: 0, or the number of a refusal; the frame; the refusal's place.
+#[repr(C)]
+#[derive(Clone, Copy)]
+pub struct Chosen {
+    pub number: u8,
+    pub frame: u8,
+    pub place: usize,
+}
+
+/// A row's memory, as each of its calls is lent it.
+pub type RowCall = unsafe extern "C" fn(
+    slots: *mut [u8; 64],
+    places: *mut [u8; 64],
+    states: *mut [u8; 64],
+    front: *mut usize,
+    held: *mut usize,
+    frame: u8,
+) -> Replied;
+
+macro_rules! row_calls {
+    ($($name:ident)*) => {
+        extern "C" {
+            $(pub fn $name(
+                slots: *mut [u8; 64],
+                places: *mut [u8; 64],
+                states: *mut [u8; 64],
+                front: *mut usize,
+                held: *mut usize,
+                frame: u8,
+            ) -> Replied;)*
+        }
+    };
+}
+
+row_calls!(musselrung_put musselrung_touch musselrung_start musselrung_end musselrung_drop);
+
 extern "C" {
+    pub fn musselrung_fresh(
+        slots: *mut [u8; 64],
+        places: *mut [u8; 64],
+        states: *mut [u8; 64],
+        front: *mut usize,
+        held: *mut usize,
+    );
+
+    pub fn musselrung_victim(slots: *const [u8; 64], states: *const [u8; 64], front: usize, held: usize) -> Chosen;
+
     pub fn musselrung_read(
         file: *const u8,
         length: usize,

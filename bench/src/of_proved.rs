@@ -1,13 +1,14 @@
 //! The proved library as a subject: each call is one exported function.
 
-use crate::check::{file, Subject};
+use crate::check::{file, row, Subject};
 use crate::ffi;
 use crate::model::file::File;
+use crate::model::row::Call;
 use crate::model::Refusal;
-use crate::subject::Files;
+use crate::subject::{Files, Picture, Rows};
 
 pub fn subjects() -> Vec<Subject> {
-    vec![file::subject::<Proved>()]
+    vec![row::subject::<Row>(), file::subject::<Proved>()]
 }
 
 pub struct Proved;
@@ -27,5 +28,48 @@ impl Files for Proved {
         assert!(told.number == 0 || counts == [7; 2], "a refusal wrote counts");
         told.result()?;
         Ok(File { capacities: capacities[..counts[0]].to_vec(), references: references[..counts[1]].to_vec() })
+    }
+}
+
+/// A frame row in memory of ours; only the library writes it.
+pub struct Row {
+    slots: [u8; 64],
+    places: [u8; 64],
+    states: [u8; 64],
+    front: usize,
+    held: usize,
+}
+
+impl Rows for Row {
+    fn fresh() -> Row {
+        let mut row = Row { slots: [9; 64], places: [9; 64], states: [9; 64], front: 9, held: 9 };
+        let Row { slots, places, states, front, held } = &mut row;
+        unsafe { ffi::musselrung_fresh(slots, places, states, front, held) };
+        row
+    }
+
+    #[inline]
+    fn call(&mut self, call: Call, frame: u8) -> (Result<(), Refusal>, usize) {
+        let function: ffi::RowCall = match call {
+            Call::Put => ffi::musselrung_put,
+            Call::Touch => ffi::musselrung_touch,
+            Call::Start => ffi::musselrung_start,
+            Call::End => ffi::musselrung_end,
+            Call::Drop => ffi::musselrung_drop,
+        };
+        let Row { slots, places, states, front, held } = self;
+        let ffi::Replied { number, examined, place } = unsafe { function(slots, places, states, front, held, frame) };
+        (ffi::Told { number, place }.result(), usize::from(examined))
+    }
+
+    #[inline]
+    fn victim(&self) -> Result<u8, Refusal> {
+        let chosen = unsafe { ffi::musselrung_victim(&self.slots, &self.states, self.front, self.held) };
+        let ffi::Chosen { number, frame, place } = chosen;
+        ffi::Told { number, place }.result().map(|()| frame)
+    }
+
+    fn picture(&self) -> Picture {
+        (self.slots, self.front, self.states)
     }
 }
