@@ -2,6 +2,9 @@
 pub mod Below
 pub mod Entries
 pub mod Kept
+pub mod Tally
+pub mod Frequencies
+pub mod Nexts
 -- Laws:
 pub mod EntryLaws
 pub mod Recency
