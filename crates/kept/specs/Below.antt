@@ -7,7 +7,7 @@ use lib.Dec.{eqb}
 use lib.ListN.{take}
 use Rattle.theory.specs.Priority.{Priority, Policy, higher, lower}
 use Rattle.theory.specs.OnePass.{carry, place, step, listAfter}
-use Rattle.theory.specs.Cases.{by-cases}
+use Rattle.rules.specs.Cases.{by-cases}
 
 abbrev pub Below : ℕ → List ℕ → Type 0
 Below n [] = Unit

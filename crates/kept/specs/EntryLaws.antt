@@ -10,10 +10,10 @@ use Rattle.theory.specs.Pages.{holds, times}
 use Rattle.theory.specs.Priority.{Priority, Policy, higher, lower}
 use Rattle.theory.specs.Policy.{byMore, smaller}
 use Rattle.theory.specs.OnePass.{carry, place}
-use Rattle.kept.specs.Entries.{entry, larger, put}
+use Rattle.kept.specs.Entries.{entry, pageOf, larger, put}
 use Rattle.theory.specs.Bags.{holds-times}
 use Rattle.kept.specs.Below.{Below}
-use Rattle.theory.specs.Cases.{by-cases, clash}
+use Rattle.rules.specs.Cases.{by-cases, clash}
 
 -- no page is there
 not-there : (x : ℕ) (l : List ℕ) → times x l ≤ 0 → holds x l ≡ false
@@ -104,3 +104,12 @@ place-entries rank rank′ shown x agree (y ∷ l) hx hl once =
           (carry-out (through rank shown) x y l (eqb-false y x e) (rw e at once)),
       carry-entries rank shown x y l hx (hl .0) (hl .1),
     )))
+
+-- the page of an entry is the page that it was made of
+page-entry : (rank : ℕ → ℕ) (p : ℕ) → p < 65536 → pageOf (entry rank p) ≡ p
+unfolding pageOf entry
+page-entry rank p h = omega arith
+
+pub pages-of : (rank : ℕ → ℕ) (l : List ℕ) → Below 65536 l → map pageOf (map (entry rank) l) ≡ l
+pages-of rank [] h = refl
+pages-of rank (p ∷ l) h = rw (page-entry rank p (h .0), pages-of rank l (h .1))

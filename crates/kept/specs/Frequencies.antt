@@ -9,7 +9,7 @@ use lib.ListN.{length, getD, replicate, length-replicate}
 use borrow.Author.Tests.{eqb-true, eqb-false, eq-eqb, ne-eqb}
 use Rattle.rules.specs.Limits.{pages}
 use Rattle.theory.specs.Pages.{times}
-use Rattle.theory.specs.Cases.{by-cases}
+use Rattle.rules.specs.Cases.{by-cases}
 use Rattle.kept.specs.Below.{Below}
 use Rattle.kept.specs.Tally.{bump, bump-length, bump-same, bump-other, zeros-at}
 
@@ -27,8 +27,12 @@ unfolding frequencies times
 frequency-is [] h p = zeros-at pages p
 frequency-is (x ∷ past) h p =
     by-cases (eqb x p)
-    (λ e. rw (e, ← eqb-true x p e, bump-same x (frequencies past) (omega (arith, h .0, frequencies-length past)),
-    frequency-is past (h .1) x) (omega arith))
+    (λ e. rw (
+      e,
+      ← eqb-true x p e,
+      bump-same x (frequencies past) (omega (arith, h .0, frequencies-length past)),
+      frequency-is past (h .1) x,
+    ) (omega arith))
     (λ e. rw (e, bump-other x p (frequencies past) (λ q. eqb-false x p e (sym q)), frequency-is past (h .1) p))
 
 pub times-most : (p : ℕ) (past : List ℕ) → times p past ≤ length past

@@ -14,7 +14,7 @@ use Rattle.kept.specs.Entries.{entry, put}
 use Rattle.kept.specs.EntryLaws.{through, place-entries, entry-same}
 use Rattle.kept.specs.Below.{Below, list-below}
 use Rattle.theory.specs.Theorem.{Orders, no-page-twice, at-most}
-use Rattle.theory.specs.Cases.{by-cases}
+use Rattle.rules.specs.Cases.{by-cases}
 
 -- a rank for each page at each moment
 abbrev pub Ranking : Type 0

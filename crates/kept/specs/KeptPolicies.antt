@@ -16,7 +16,7 @@ use Rattle.kept.specs.EntryLaws.{through, entry-above, carry-same}
 use Rattle.kept.specs.Below.{Below, list-below}
 use Rattle.kept.specs.Recency.{place-shift, list-sorted, nearness-other}
 use Rattle.kept.specs.Kept.{Ranking, Keeps}
-use Rattle.theory.specs.Cases.{by-cases}
+use Rattle.rules.specs.Cases.{by-cases}
 
 unfoldable pub unranked : Ranking
 unranked past to p = 0

@@ -11,7 +11,7 @@ use lib.Seq.{getD-set-same, getD-set-other}
 use borrow.Author.Tests.{eqb-true, eqb-false}
 use Rattle.rules.specs.Limits.{pages}
 use Rattle.theory.specs.Policy.{nearness}
-use Rattle.theory.specs.Cases.{by-cases}
+use Rattle.rules.specs.Cases.{by-cases}
 use Rattle.kept.specs.Below.{Below}
 use Rattle.kept.specs.Tally.{zeros-at}
 

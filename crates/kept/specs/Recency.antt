@@ -10,7 +10,7 @@ use borrow.Author.Tests.{eqb-true, eqb-false, eq-eqb, ne-eqb, lt-ltb}
 use Rattle.theory.specs.Priority.{Priority, higher, lower}
 use Rattle.theory.specs.Policy.{byMore, smaller, nearness, lru}
 use Rattle.theory.specs.OnePass.{carry, place, step, listAfter}
-use Rattle.theory.specs.Cases.{by-cases}
+use Rattle.rules.specs.Cases.{by-cases}
 
 -- the ranks fall from y down the list
 abbrev pub Falling : (ℕ → ℕ) → ℕ → List ℕ → Type 0
@@ -31,7 +31,7 @@ sorted-take rank zero l h = tt
 sorted-take rank (suc k) [] h = tt
 sorted-take rank (suc k) (y ∷ l) h = falling-take rank k y l h
 
-nearness-most : (p : ℕ) (past : List ℕ) → nearness p past ≤ length past
+pub nearness-most : (p : ℕ) (past : List ℕ) → nearness p past ≤ length past
 unfolding nearness
 nearness-most p [] = omega arith
 nearness-most p (z ∷ past) =

@@ -12,7 +12,7 @@ use Rattle.rules.specs.Limits.{capacities}
 use Rattle.theory.specs.Pages.{one}
 use Rattle.theory.specs.Priority.{Policy}
 use Rattle.theory.specs.OnePass.{listAfter, depth, within, depthHits}
-use Rattle.theory.specs.Cases.{by-cases}
+use Rattle.rules.specs.Cases.{by-cases}
 
 -- one more at place d
 unfoldable pub bump : ℕ → List ℕ → List ℕ
@@ -101,8 +101,11 @@ pub tally-hits : (policy : Policy) (k c : ℕ) (past to : List ℕ) → c ≤ ca
 unfolding tally depthHits
 tally-hits policy k c [] to h = zeros-upTo (suc capacities) c
 tally-hits policy k c (x ∷ past) to h =
-    rw (upTo-bump (depth x (listAfter policy k past (x ∷ to))) c (tally policy k past (x ∷ to))
-    (omega (arith, tally-length policy k past (x ∷ to))), tally-hits policy k c past (x ∷ to) h)
+    rw (
+      upTo-bump (depth x (listAfter policy k past (x ∷ to))) c (tally policy k past (x ∷ to))
+          (omega (arith, tally-length policy k past (x ∷ to))),
+      tally-hits policy k c past (x ∷ to) h,
+    )
 
 -- no depth came more often than there were references
 pub tally-most : (policy : Policy) (k d : ℕ) (past to : List ℕ) → getD (tally policy k past to) d 0 ≤ length past

@@ -85,3 +85,8 @@ refuseIf broken number rest = cond broken (refusal number 0) rest
 unfoldable pub firstBadPage : ℕ → List ℕ → Answer → Answer
 firstBadPage i [] rest = rest
 firstBadPage i (p ∷ trace) rest = cond (leb pages p) (refusal badPage i) (firstBadPage (suc i) trace rest)
+
+-- one thing where a call was accepted, another where it was refused
+abbrev pub whenAccepted : {A : Type 0} → Answer → A → A → A
+whenAccepted Accepted a b = a
+whenAccepted (Refused r) a b = b

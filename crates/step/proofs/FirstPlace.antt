@@ -13,7 +13,8 @@ use borrow.Rule.Slice.PartMut.{putMid, midOf, postOf}
 use Rattle.theory.specs.Priority.{Priority, higher, lower}
 use Rattle.theory.specs.OnePass.{carry, depth, depthFrom}
 use Rattle.kept.specs.Entries.{put, always}
-use Rattle.theory.specs.Cases.{by-cases}
+use Rattle.theory.specs.Depth.{depth-most}
+use Rattle.rules.specs.Cases.{by-cases}
 use Rattle.step.specs.declared.Carried.{Carried}
 use Rattle.step.specs.Stepped.{Carrying, Placed}
 
@@ -31,11 +32,6 @@ depth-later i x [] h = absurd (h refl)
 depth-later i x (z ∷ l) h =
     by-cases (eqb z x) (λ e. rw e (omega arith))
     (λ e. rw e (depth-later (suc i) x l (λ q. h (rw e q))))
-
-pub depth-most : (i x : ℕ) (l : List ℕ) → depthFrom (suc i) x l ≤ i + length l
-unfolding depthFrom
-depth-most i x [] = omega arith
-depth-most i x (z ∷ l) = by-cases (eqb z x) (λ e. rw e (omega arith)) (λ e. rw e (omega (arith, depth-most (suc i) x l)))
 
 -- where the old entry is found, as many places are filled as there were
 carry-length : (above : Priority) (i old y : ℕ) (l : List ℕ) → (depthFrom (suc i) old l ≡ 0 → ⊥) → length (carry above old y l) ≡ length l

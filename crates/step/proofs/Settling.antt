@@ -11,7 +11,7 @@ use lib.Seq.{take-all, take-suc, drop-cons, set-at, length-take-le}
 use borrow.Author.Tests.{eq-eqb, ne-eqb, eqb-true, eqb-false, lt-ltb, le-ltb, ltb-true, ltb-false, leb-true, leb-false}
 use Rattle.theory.specs.Priority.{Priority}
 use Rattle.theory.specs.OnePass.{depth}
-use Rattle.theory.specs.Cases.{by-cases}
+use Rattle.rules.specs.Cases.{by-cases}
 use Rattle.kept.specs.Entries.{put}
 use Rattle.step.specs.declared.Carried.{Carried}
 use Rattle.step.specs.declared.Step.{Step}

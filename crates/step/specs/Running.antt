@@ -10,10 +10,11 @@ use Rattle.rules.specs.Limits.{capacities}
 use Rattle.theory.specs.Priority.{Priority, Policy}
 use Rattle.theory.specs.OnePass.{listAfter, depth}
 use Rattle.theory.specs.Theorem.{at-most}
+use Rattle.theory.specs.Depth.{depth-most}
 use Rattle.kept.specs.Below.{Below, list-below}
 use Rattle.kept.specs.Entries.{entry, put}
 use Rattle.kept.specs.Kept.{Ranking, Keeps, kept, kept-step, depth-entry}
-use Rattle.kept.specs.Tally.{tally, bump}
+use Rattle.kept.specs.Tally.{tally, bump, tally-most}
 use Rattle.step.specs.declared.Step.{Step}
 use Rattle.step.specs.Stepped.{Stepped, next}
 
@@ -23,7 +24,23 @@ pub record Running (policy : Policy) (ranking : Ranking) (k : ℕ) (past to memo
   pub inside : n ≤ capacities
   pub depths-are : depths ≡ tally policy k past to
 
-kept-length : (ranking : Ranking) (policy : Policy) (k : ℕ) (past to : List ℕ)
+-- as many places are in use as the run says
+pub in-use : {policy : Policy} {ranking : Ranking} {k n : ℕ} {past to memory depths : List ℕ} → Running policy ranking k past to memory n depths
+    → length (take n memory) ≡ n
+in-use {policy} {ranking} {k} {n} {past} {to} {memory} run = rw (length-take n memory, run .room) (omega (arith, run .inside))
+
+-- no depth came more often than there were references
+pub counted-few : {policy : Policy} {ranking : Ranking} {k n : ℕ} {past to memory depths : List ℕ} → Running policy ranking k past to memory n depths
+    → (d : ℕ) → getD depths d 0 ≤ length past
+counted-few {policy} {ranking} {k} {n} {past} {to} run d = rw (run .depths-are) (tally-most policy k d past to)
+
+-- a depth has its place among the depths that are counted
+pub depth-inside : {policy : Policy} {ranking : Ranking} {k n old new : ℕ} {past to memory depths after : List ℕ} {shown : Priority} {s : Step}
+    → Running policy ranking k past to memory n depths → Stepped shown k old new n memory after s → s .depth ≤ capacities
+depth-inside {policy} {ranking} {k} {n} {old} {new} {past} {to} {memory} run stepped =
+    omega (arith, stepped .depth-is, depth-most 0 old (take n memory), in-use run, run .inside)
+
+pub kept-length : (ranking : Ranking) (policy : Policy) (k : ℕ) (past to : List ℕ)
     → length (kept ranking policy k past to) ≡ length (listAfter policy k past to)
 unfolding kept
 kept-length ranking policy k past to = length-map (listAfter policy k past to) (entry (ranking past to))
@@ -62,5 +79,5 @@ module _ (policy : Policy) (ranking : Ranking) (shown : Priority) (keeps : Keeps
         room = rw (after-is, length-append all (drop (length all) memory), length-drop (length all) memory) (omega (arith, next-few, run .room));
         places = rw after-is (take-at all (drop (length all) memory) (s .length) (sym long));
         inside = omega (arith, next-few);
-        depths-are = rw (step-depth, run .depths-are)
+        depths-are = rw (step-depth, run .depths-are);
       }

@@ -15,7 +15,7 @@ use Rattle.theory.specs.Priority.{Priority, lower, higher}
 use Rattle.theory.specs.Plain.{lowest}
 use Rattle.theory.specs.OnePass.{carry, place}
 use Rattle.theory.specs.Bags.{sum}
-use Rattle.theory.specs.Cases.{by-cases, clash}
+use Rattle.rules.specs.Cases.{by-cases, clash}
 
 module _ (above : Priority) (x : ℕ) where
   -- what leaves the first n places of l when y is carried into them

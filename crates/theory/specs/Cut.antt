@@ -9,7 +9,7 @@ use lib.ListN.{take, length}
 use lib.Seq.{take-nil, take-take}
 use Rattle.theory.specs.Priority.{Priority, Policy, lower, higher}
 use Rattle.theory.specs.OnePass.{carry, place, step, listAfter, unlimited}
-use Rattle.theory.specs.Cases.{by-cases}
+use Rattle.rules.specs.Cases.{by-cases}
 
 -- what stands past the first n places does not reach them
 pub carry-cut : (above : Priority) (x n y : ℕ) (l : List ℕ) → take n (carry above x y (take n l)) ≡ take n (carry above x y l)

@@ -6,12 +6,12 @@ use mathlib.Core.Bool.{Bool, true, false, cond, _&&_}
 use mathlib.Core.Path.{_≡_, refl, sym, _∙_, ap}
 use mathlib.Core.List.{List, [], _∷_}
 use lib.Dec.{eqb, leb}
-use lib.ListN.{take}
+use lib.ListN.{take, length}
 use lib.Seq.{take-nil}
 use borrow.Author.Tests.{le-leb, lt-leb, leb-false}
 use Rattle.theory.specs.Pages.{holds}
 use Rattle.theory.specs.OnePass.{depth, depthFrom, within}
-use Rattle.theory.specs.Cases.{by-cases}
+use Rattle.rules.specs.Cases.{by-cases}
 
 -- a page that is looked for from place i + 1 on is at no place up to i
 depth-below : (i x : ℕ) (l : List ℕ) → within (depthFrom (suc i) x l) i ≡ false
@@ -34,3 +34,9 @@ depth-from i (suc n) x (z ∷ l) =
 
 pub depth-within : (x n : ℕ) (l : List ℕ) → within (depth x l) n ≡ holds x (take n l)
 depth-within x n l = rw zero-add at (depth-from 0 n x l)
+
+-- a depth is no more than there are places
+pub depth-most : (i x : ℕ) (l : List ℕ) → depthFrom (suc i) x l ≤ i + length l
+unfolding depthFrom
+depth-most i x [] = omega arith
+depth-most i x (z ∷ l) = by-cases (eqb z x) (λ e. rw e (omega arith)) (λ e. rw e (omega (arith, depth-most (suc i) x l)))

@@ -7,7 +7,6 @@ pub mod OnePass
 -- The marked cases, which test them:
 pub mod MarkedCounts
 -- Laws, which antt checks, and the theorems that they lead to:
-pub mod Cases
 pub mod Bags
 pub mod Order
 pub mod Lowest

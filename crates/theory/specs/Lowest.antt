@@ -10,7 +10,7 @@ use Rattle.theory.specs.Pages.{holds}
 use Rattle.theory.specs.Priority.{Priority, Order, lower, higher}
 use Rattle.theory.specs.Plain.{lowest}
 use Rattle.theory.specs.Bags.{Same, same-holds}
-use Rattle.theory.specs.Cases.{by-cases, clash}
+use Rattle.rules.specs.Cases.{by-cases, clash}
 
 -- m is in l, and every other page of l is above it
 pub record Lowest (above : Priority) (m : ℕ) (l : List ℕ) : Type 0 where

@@ -11,7 +11,7 @@ use Rattle.theory.specs.Pages.{holds, times}
 use Rattle.theory.specs.Priority.{Priority, Policy}
 use Rattle.theory.specs.Plain.{lowest, without, evict, refer, cacheAfter}
 use Rattle.theory.specs.Bags.{holds-times}
-use Rattle.theory.specs.Cases.{by-cases}
+use Rattle.rules.specs.Cases.{by-cases}
 
 times-without : (p q : ℕ) (l : List ℕ) → times p (without q l) ≤ times p l
 unfolding times without

@@ -10,7 +10,7 @@ use Rattle.rules.specs.Limits as limits
 use Rattle.theory.specs.Priority.{Priority, Policy, Order}
 use Rattle.theory.specs.Policy.{byMore, smaller, nearness, lru, lfu, opt, policyOf}
 use Rattle.theory.specs.Pages.{times}
-use Rattle.theory.specs.Cases.{by-cases, clash}
+use Rattle.rules.specs.Cases.{by-cases, clash}
 
 pub smaller-order : Order smaller
 unfolding smaller

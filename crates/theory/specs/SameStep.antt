@@ -17,7 +17,7 @@ use Rattle.theory.specs.Bags.{Same, sum, same-holds, same-length, same-t
 use Rattle.theory.specs.Lowest.{Lowest, lowest-is, lowest-unique}
 use Rattle.theory.specs.Carry.{place-found, place-full, place-room}
 use Rattle.theory.specs.Cut.{first-places}
-use Rattle.theory.specs.Cases.{by-cases, clash}
+use Rattle.rules.specs.Cases.{by-cases, clash}
 
 -- taking a held page out takes its weight out
 without-sum : (f : ℕ → ℕ) (p : ℕ) (l : List ℕ) → holds p l ≡ true → sum f (without p l) + f p ≡ sum f l

@@ -19,7 +19,7 @@ use Rattle.theory.specs.SameStep.{same-step}
 use Rattle.theory.specs.Once.{cache-once}
 use Rattle.theory.specs.Depth.{depth-within}
 use Rattle.theory.specs.Cut.{first-places, list-cut}
-use Rattle.theory.specs.Cases.{by-cases, clash}
+use Rattle.rules.specs.Cases.{by-cases, clash}
 
 -- a policy whose priority is an order at every moment
 abbrev pub Orders : Policy → Type 0
