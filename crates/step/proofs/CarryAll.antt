@@ -7,11 +7,11 @@ use mathlib.Core.List.{List, [], _∷_, _++_, append-nil}
 use lib.Dec.{eqb}
 use lib.ListN.{length, take, drop, getD, length-drop, length-append, List·getD-eq-default, drop-of-length-le}
 use lib.Seq.{take-all, length-take-le}
-use Rattle.theory.specs.Cases.{by-cases}
+use Rattle.rules.specs.Cases.{by-cases}
 use Rattle.theory.specs.OnePass.{carry, depth, depthFrom}
 use Rattle.kept.specs.Entries.{always}
 use Rattle.step.specs.Stepped.{Carrying}
-use Rattle.step.proofs.FirstPlace.{depth-most}
+use Rattle.theory.specs.Depth.{depth-most}
 
 -- where it is found at all, its place is no earlier than where counting starts
 depth-least : (s x : ℕ) (l : List ℕ) → (depthFrom (suc s) x l ≡ 0 → ⊥) → suc s ≤ depthFrom (suc s) x l
