@@ -1,8 +1,12 @@
 pub mod Count
 pub mod Checks
 pub mod Table
+pub mod Listing
+pub mod MarkedAnswers
 pub mod Runs
 pub mod RunLaws
 pub mod LfuLaws
 pub mod OptLaws
 pub mod CountLaws
+pub mod ListLaws
+pub mod Promises

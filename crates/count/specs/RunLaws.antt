@@ -66,7 +66,7 @@ module _ {policy : Policy} {ranking : Ranking} {shown : Priority} (keeps : Keeps
   module _ (i : ℕ) {n : ℕ} {memory depths : List ℕ} (run : Running policy ranking k (before trace i) (drop i trace) memory n depths) where
     pub run-end : i ≡ t → Ran policy trace k t (record { list = memory; length = n; depths = depths })
     unfolding kept
-    run-end e = rw (← e) (record { list-is = list-is; length-is = length-is; depths-are = run .depths-are })
+    run-end e = rw (← e) (record { room = run .room; inside = run .inside; list-is = list-is; length-is = length-is; depths-are = run .depths-are })
       where
         list-is : map pageOf (take n memory) ≡ listAfter policy k (before trace i) (drop i trace)
         list-is =

@@ -19,6 +19,8 @@ pub record Fit (trace : List ℕ) (k t : ℕ) : Type 0 where
   pub within : t ≤ length trace
 
 pub record Ran (policy : Policy) (trace : List ℕ) (k t : ℕ) (r : Run) : Type 0 where
+  pub room : length (r .list) ≡ capacities
+  pub inside : r .length ≤ capacities
   pub list-is : map pageOf (take (r .length) (r .list)) ≡ listAfter policy k (reverse (take t trace)) (drop t trace)
   pub length-is : r .length ≡ length (listAfter policy k (reverse (take t trace)) (drop t trace))
   pub depths-are : r .depths ≡ tally policy k (reverse (take t trace)) (drop t trace)

@@ -1,3 +1,4 @@
 pub mod Stepped
 pub mod Shifting
 pub mod Running
+pub mod Shown

@@ -1,0 +1,86 @@
+-- What the promises of `count` and `list` give their users: each pins its whole answer, and the demands hold of the code's own
+-- results (docs/RULES.md, D1 to D3).
+use Prim.Native.Nat.{ℕ, zero, suc, _+_, _≤_, _<_}
+use native.Mathlib.Omega.{arith}
+use native.Mathlib.Nat.{add-suc, suc-add, add-zero}
+use mathlib.Core.Path.{_≡_, refl, sym, _∙_, ap}
+use mathlib.Core.List.{List, [], _∷_, _++_, reverse}
+use lib.ListN.{length, take, drop, getD, List·getD-append}
+use lib.Seq.{getD-append-add, getD-drop, drop-drop}
+use Rattle.rules.specs.Refusals.{whenAccepted}
+use Rattle.rules.specs.declared.Answer.{Answer}
+use Rattle.rules.specs.declared.Answer.the-variants.{Accepted, Refused}
+use Rattle.rules.specs.declared.Refusal.{Refusal}
+use Rattle.theory.specs.Pages.{holds}
+use Rattle.theory.specs.Policy.{policyOf}
+use Rattle.theory.specs.Plain.{hitsAt, hitsFrom, hitsUpTo, cacheAfter}
+use Rattle.theory.specs.OnePass.{listOf}
+use Rattle.theory.specs.Order.{policy-order}
+use Rattle.theory.specs.Theorem.{list-is-cache}
+use Rattle.count.specs.Count.{Counted, countAnswer, countTable, listAnswer, listShown}
+use Rattle.count.specs.Listing.{Showing}
+use Rattle.count.specs.declared.Listed.{Listed}
+
+-- two answers that both meet the promise are equal, and so are the tables
+pub count-unique : {trace before after after′ : List ℕ} {policy k : ℕ} {r r′ : Answer} → Counted trace policy k before after r
+    → Counted trace policy k before after′ r′ → (r ≡ r′) × (after ≡ after′)
+count-unique a b = (a .answer ∙ sym (b .answer), a .table ∙ sym (b .table))
+
+pub list-unique : {trace : List ℕ} {policy k t : ℕ} {r r′ : Listed} → Showing trace policy k t r → Showing trace policy k t r′ → r ≡ r′
+list-unique {r = r} {r′ = r′} a b =
+    λ i. record {
+      answer = (a .answer-is ∙ sym (b .answer-is)) i;
+      length = (a .length-is ∙ sym (b .length-is)) i;
+      places = (a .places-are ∙ sym (b .places-are)) i;
+    }
+
+hits-length : (policy c n : ℕ) (trace : List ℕ) → length (hitsFrom policy c n trace) ≡ n
+unfolding hitsFrom
+hits-length policy c zero trace = refl
+hits-length policy c (suc n) trace = ap suc (hits-length policy (suc c) n trace)
+
+hits-entry : (policy c n i : ℕ) (trace : List ℕ) → i < n → getD (hitsFrom policy c n trace) i 0 ≡ hitsAt policy (c + i) trace
+unfolding hitsFrom
+hits-entry policy c zero i trace h = absurd (omega arith)
+hits-entry policy c (suc n) zero trace h = rw (add-zero c)
+hits-entry policy c (suc n) (suc i) trace h =
+    rw (hits-entry policy (suc c) n i trace (omega arith), suc-add c i, add-suc c i)
+
+module _ {trace before after : List ℕ} {policy k : ℕ} where
+  -- D2, D3: after an accepted count entry C-1 is the number of hits of the plain cache of C frames
+  pub entry-is-hits : Counted trace policy k before after Accepted → (c : ℕ) → c < k → getD after c 0 ≡ hitsAt policy (c + 1) trace
+  unfolding countTable
+  entry-is-hits p c h =
+      let accepted : countAnswer policy k (length before) trace ≡ Accepted = sym (p .answer) in
+      let filled : after ≡ hitsUpTo policy k trace ++ drop k before = p .table ∙ rw accepted in
+      let one : 1 + c ≡ c + 1 = omega arith in
+      rw (
+        filled,
+        List·getD-append (hitsUpTo policy k trace) (drop k before) 0 c (omega (arith, hits-length policy 1 k trace)),
+        hits-entry policy 1 k c trace h,
+        one,
+      )
+
+  -- A4: later entries keep their values
+  pub later-entries : Counted trace policy k before after Accepted → (i : ℕ) → getD after (k + i) 0 ≡ getD before (k + i) 0
+  unfolding countTable
+  later-entries p i =
+      let accepted : countAnswer policy k (length before) trace ≡ Accepted = sym (p .answer) in
+      let filled : after ≡ hitsUpTo policy k trace ++ drop k before = p .table ∙ rw accepted in
+      let behind : getD (hitsUpTo policy k trace ++ drop k before) (length (hitsUpTo policy k trace) + i) 0 ≡ getD (drop k before) i 0 =
+      getD-append-add (hitsUpTo policy k trace) (drop k before) i 0 in
+      rw filled (rw (hits-length policy 1 k trace) at behind) ∙ getD-drop k before i 0
+
+  -- A3: a refusal leaves the table as it was
+  pub refusal-keeps : {refused : Refusal} → Counted trace policy k before after (Refused refused) → after ≡ before
+  unfolding countTable
+  refusal-keeps {refused} p =
+      let no-count : countAnswer policy k (length before) trace ≡ Refused refused = sym (p .answer) in
+      p .table ∙ rw no-count
+
+-- D3: the pages in the first C places of the list that is shown after t references are those of the plain cache of C frames
+pub shown-is-cache : (trace : List ℕ) (policy k t : ℕ) → listAnswer policy k trace t ≡ Accepted → (c : ℕ) → 1 ≤ c → c ≤ k → (p : ℕ)
+    → holds p (take c (listShown policy k trace t)) ≡ holds p (cacheAfter (policyOf policy) c (reverse (take t trace)) (drop t trace))
+unfolding listShown listOf
+shown-is-cache trace policy k t accepted c low high p =
+    rw accepted (list-is-cache (policyOf policy) (policy-order policy) c k low high (reverse (take t trace)) (drop t trace) p)

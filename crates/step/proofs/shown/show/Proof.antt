@@ -1,0 +1,94 @@
+use Prim.Native.Nat.{_-_, _≤_}
+use native.Mathlib.Omega.{arith}
+use mathlib.Core.Path.{_≡_}
+use mathlib.Core.List.{map}
+use lib.ListN.{take}
+use borrow.Author.Needs.{needs}
+use Rattle.kept.specs.Entries.{pageOf}
+use Rattle.step.specs.Shown.{placesOf, shown-start, shown-next, shown-end}
+use Rattle.step.proofs.shown.show.Statement.{statement}
+use Rattle.step.proofs.shown.show.Tie as tie
+use Rattle.step.proofs.shown.show.Reads as reads
+use Rattle.step.proofs.shown.show.Lts as lts
+use Rattle.step.proofs.in_use.Reads as in-use-reads
+use Rattle.step.proofs.shown.page.Reads as page-reads
+
+abbrev Inv-loop : tie.InvT-loop
+Inv-loop list n used places₀ i₀ places i = (places ≡ placesOf (map pageOf (take i list))) × (i ≤ used)
+
+abbrev μ-loop : tie.MeasureT-loop
+μ-loop list n used places₀ i₀ places i = used - i
+
+-- src/shown.rt:13:23
+in-use-requires : tie.Need-in-use-requires Inv-loop μ-loop
+in-use-requires c κs = search needs
+
+-- src/shown.rt:13:9
+in-use-requires-2 : tie.Need-in-use-requires-2 Inv-loop μ-loop
+in-use-requires-2 c κs = search needs
+
+-- src/shown.rt:16:5
+loop-holds : tie.Need-loop-holds Inv-loop μ-loop
+loop-holds c = (shown-start (c .before .before .before .args .list .now), omega arith)
+
+-- src/shown.rt:17:31
+mul-page : tie.Need-mul-page Inv-loop μ-loop
+mul-page c = search needs
+
+-- src/shown.rt:17:31
+shared-slice-read-page : tie.Need-shared-slice-read-page Inv-loop μ-loop
+shared-slice-read-page c = search needs
+
+-- src/shown.rt:17:26
+page-requires : tie.Need-page-requires Inv-loop μ-loop
+page-requires c κs = search needs
+
+-- src/shown.rt:17:9
+mul-places : tie.Need-mul-places Inv-loop μ-loop
+mul-places c = search needs
+
+-- src/shown.rt:17:9
+array-set-from-places : tie.Need-array-set-from-places Inv-loop μ-loop
+array-set-from-places c = search needs
+
+-- src/shown.rt:18:9
+add-i : tie.Need-add-i Inv-loop μ-loop
+add-i c = search needs
+
+-- src/shown.rt:16:5
+loop-less : tie.Need-loop-less Inv-loop μ-loop
+loop-less c = search needs
+
+-- src/shown.rt:16:5
+loop-again : tie.Need-loop-again Inv-loop μ-loop
+loop-again c = (
+  rw (c .page .ensures)
+      (shown-next (c .before .before .before .before .before .before .before .args .list .now) (c .before .before .before .loop .places) (c .before .before .before .loop .i) (omega (arith, c .before .before .before .before .in-use2 .ensures, c .before .before .before .before .before .in-use .ensures))
+      (omega (arith, c .before .before .before .before .in-use2 .ensures)) (c .before .before .before .loop .inv .0)),
+  omega arith,
+)
+
+-- src/shown.rt:10:1
+returns : tie.Need-returns Inv-loop μ-loop
+returns c =
+    shown-end (c .before .before .before .before .before .args .n) (c .before .before .before .before .before .args .list .now) (c .before .loop .places) (c .before .loop .i)
+    (omega (arith, c .before .before .in-use2 .ensures, c .before .before .before .in-use .ensures)) (c .before .loop .inv .0)
+
+pub show-spec : {M : Type 1} → statement M
+show-spec =
+    tie.close
+    (tie.spec
+    Inv-loop
+    μ-loop
+    in-use-requires
+    in-use-requires-2
+    loop-holds
+    mul-page
+    shared-slice-read-page
+    page-requires
+    mul-places
+    array-set-from-places
+    add-i
+    loop-less
+    loop-again
+    returns)
