@@ -67,6 +67,25 @@ macro_rules! row_calls {
 row_calls!(musselrung_put musselrung_touch musselrung_start musselrung_end musselrung_drop);
 
 extern "C" {
+    pub fn musselrung_count(
+        trace: *const u16,
+        references: usize,
+        policy: u8,
+        k: usize,
+        hits: *mut u32,
+        room: usize,
+    ) -> Told;
+
+    pub fn musselrung_list(
+        trace: *const u16,
+        references: usize,
+        policy: u8,
+        k: usize,
+        t: usize,
+        places: *mut [u16; 64],
+        length: *mut usize,
+    ) -> Told;
+
     pub fn musselrung_fresh(
         slots: *mut [u8; 64],
         places: *mut [u8; 64],

@@ -9,6 +9,7 @@ mod of_proved;
 mod plain;
 mod rng;
 mod subject;
+mod time;
 
 use check::Subject;
 use std::io::Write;
@@ -26,6 +27,10 @@ fn main() {
     let words: Vec<String> = std::env::args().skip(1).collect();
     let ended = match words.first().map(String::as_str) {
         Some("check") => Wanted::from(&words[1..]).and_then(|wanted| wanted.run()),
+        Some("time") if words.len() == 1 => {
+            print!("{}", time::table(&time::whole_traces::<of_proved::Proved, of_plain::Plain>()));
+            Ok(())
+        }
         _ => Err(USAGE.to_string()),
     };
     if let Err(fault) = ended {

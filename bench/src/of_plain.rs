@@ -10,7 +10,7 @@ pub fn subjects() -> Vec<Subject> {
     vec![trace::subject::<Plain>(), session::subject::<plain::session::Session>(), row::subject::<plain::row::Row>()]
 }
 
-struct Plain;
+pub struct Plain;
 
 impl Counts for Plain {
     fn count(trace: &[u16], policy: u8, k: usize, table: &mut [u32]) -> Result<(), Refusal> {

@@ -1,20 +1,39 @@
 //! The proved library as a subject: each call is one exported function.
 
-use crate::check::{file, row, Subject};
+use crate::check::{file, list, row, trace, Subject};
 use crate::ffi;
 use crate::model::file::File;
 use crate::model::row::Call;
 use crate::model::Refusal;
-use crate::subject::{Files, Picture, Rows};
+use crate::subject::{Counts, Files, Lists, Picture, Rows};
 
 pub fn subjects() -> Vec<Subject> {
-    vec![row::subject::<Row>(), file::subject::<Proved>()]
+    vec![trace::subject::<Proved>(), list::subject::<Proved>()]
 }
 
 pub struct Proved;
 
 /// What a lent table has where the library has not written.
 const UNTOUCHED: u16 = 0xa5a5;
+
+impl Counts for Proved {
+    #[inline]
+    fn count(trace: &[u16], policy: u8, k: usize, table: &mut [u32]) -> Result<(), Refusal> {
+        let (table, room) = (table.as_mut_ptr(), table.len());
+        unsafe { ffi::musselrung_count(trace.as_ptr(), trace.len(), policy, k, table, room) }.result()
+    }
+}
+
+impl Lists for Proved {
+    fn list(trace: &[u16], policy: u8, k: usize, t: usize) -> Result<(usize, Vec<u16>), Refusal> {
+        let (mut places, mut length) = ([UNTOUCHED; 64], 77);
+        let told =
+            unsafe { ffi::musselrung_list(trace.as_ptr(), trace.len(), policy, k, t, &mut places, &mut length) };
+        assert!(told.number == 0 || places == [UNTOUCHED; 64] && length == 77, "a refusal wrote a list");
+        told.result()?;
+        Ok((length, places.to_vec()))
+    }
+}
 
 impl Files for Proved {
     fn read(bytes: &[u8]) -> Result<File, Refusal> {

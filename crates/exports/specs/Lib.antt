@@ -1,0 +1,3 @@
+pub mod Told
+pub mod Trace
+pub mod TraceLaws
