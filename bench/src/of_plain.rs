@@ -32,7 +32,7 @@ impl Sessions for plain::session::Session {
 
     fn list(&self) -> (usize, Vec<u16>) {
         let places = self.list();
-        (places.len(), places.to_vec())
+        (places.len(), places)
     }
 
     fn accepted(&self) -> usize {

@@ -1,14 +1,19 @@
 //! A session that changes in place.
 
-use super::walk::{lowest_keys, List, LIMIT, PAGES, RANK};
+use super::walk::{lowest, page_of, Entries, Pages, LIMIT, PAGES, RANK};
 
 #[derive(Clone)]
 pub struct Session {
+    limit: usize,
     list: List,
-    frequent: bool,
-    keys: [u32; PAGES],
     depths: [u32; LIMIT + 1],
     accepted: usize,
+}
+
+#[derive(Clone)]
+enum List {
+    Lru(Pages),
+    Lfu(Entries, [u32; PAGES]),
 }
 
 impl Session {
@@ -19,13 +24,8 @@ impl Session {
         if k < 1 || k > LIMIT {
             return Err(1);
         }
-        Ok(Session {
-            list: List::new(k),
-            frequent: policy == 1,
-            keys: lowest_keys(),
-            depths: [0; LIMIT + 1],
-            accepted: 0,
-        })
+        let list = if policy == 0 { List::Lru(Pages::new(k)) } else { List::Lfu(Entries::new(k), lowest()) };
+        Ok(Session { limit: k, list, depths: [0; LIMIT + 1], accepted: 0 })
     }
 
     /// The depth, or 0.
@@ -37,20 +37,24 @@ impl Session {
         if usize::from(page) >= PAGES {
             return Err(3);
         }
-        let depth = if self.frequent {
-            let depth = self.list.carry(page, &self.keys);
-            self.keys[usize::from(page)] += RANK;
-            depth
-        } else {
-            self.list.shift(page)
+        let depth = match &mut self.list {
+            List::Lru(pages) => pages.shift(page),
+            List::Lfu(list, entries) => {
+                let entry = &mut entries[usize::from(page)];
+                *entry += RANK;
+                list.carry(*entry - RANK, *entry)
+            }
         };
         self.depths[depth] += 1;
         self.accepted += 1;
         Ok(depth)
     }
 
-    pub fn list(&self) -> &[u16] {
-        &self.list.places[..self.list.length]
+    pub fn list(&self) -> Vec<u16> {
+        match &self.list {
+            List::Lru(pages) => pages.places[..pages.length].to_vec(),
+            List::Lfu(list, _) => list.places[..list.length].iter().map(|&entry| page_of(entry)).collect(),
+        }
     }
 
     pub fn accepted(&self) -> usize {
@@ -58,7 +62,7 @@ impl Session {
     }
 
     pub fn hits(&self, capacity: usize) -> Result<u32, u8> {
-        if capacity < 1 || capacity > self.list.limit {
+        if capacity < 1 || capacity > self.limit {
             return Err(7);
         }
         Ok(self.depths[1..=capacity].iter().sum())

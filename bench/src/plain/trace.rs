@@ -1,6 +1,6 @@
 //! Whole traces in one pass, all capacities at once, with the same refusals as the proved count.
 
-use super::walk::{key, lowest_keys, List, LIMIT, PAGES, RANK};
+use super::walk::{entry, lowest, Entries, Pages, LIMIT, PAGES, RANK};
 
 const REFERENCES: usize = 4096;
 
@@ -40,7 +40,7 @@ type Depths = [u32; LIMIT + 1];
 
 fn lru(trace: &[u16], k: usize) -> Depths {
     let mut depths = [0; LIMIT + 1];
-    let mut list = List::new(k);
+    let mut list = Pages::new(k);
     for &page in trace {
         depths[list.shift(page)] += 1;
     }
@@ -49,11 +49,12 @@ fn lru(trace: &[u16], k: usize) -> Depths {
 
 fn lfu(trace: &[u16], k: usize) -> Depths {
     let mut depths = [0; LIMIT + 1];
-    let mut list = List::new(k);
-    let mut keys = lowest_keys();
+    let mut list = Entries::new(k);
+    let mut entries = lowest();
     for &page in trace {
-        depths[list.carry(page, &keys)] += 1;
-        keys[usize::from(page)] += RANK;
+        let entry = &mut entries[usize::from(page)];
+        depths[list.carry(*entry, *entry + RANK)] += 1;
+        *entry += RANK;
     }
     depths
 }
@@ -61,17 +62,16 @@ fn lfu(trace: &[u16], k: usize) -> Depths {
 /// The next reference to each page is found for all references in one backward pass; sooner ranks higher.
 fn opt(trace: &[u16], k: usize) -> Depths {
     let mut after = [0; REFERENCES];
-    let mut keys = lowest_keys();
+    let mut coming = lowest();
     for (i, &page) in trace.iter().enumerate().rev() {
         let page = usize::from(page);
-        after[i] = keys[page];
-        keys[page] = key(REFERENCES - i, page);
+        after[i] = coming[page];
+        coming[page] = entry(REFERENCES - i, page);
     }
     let mut depths = [0; LIMIT + 1];
-    let mut list = List::new(k);
+    let mut list = Entries::new(k);
     for (i, &page) in trace.iter().enumerate() {
-        depths[list.carry(page, &keys)] += 1;
-        keys[usize::from(page)] = after[i];
+        depths[list.carry(entry(REFERENCES - i, usize::from(page)), after[i])] += 1;
     }
     depths
 }

@@ -1,21 +1,22 @@
-//! One reference to a list of pages in place: LRU by find and shift, and the carrying walk over ranks for the others.
+//! One reference to a list in place: LRU by find and shift over pages, and the carrying walk over entries for the others.
 
 pub const LIMIT: usize = 64;
 pub const PAGES: usize = 1024;
 
+/// The list under LRU: pages alone.
 #[derive(Clone)]
-pub struct List {
+pub struct Pages {
     pub places: [u16; LIMIT],
     pub length: usize,
-    pub limit: usize,
+    limit: usize,
 }
 
-impl List {
-    pub fn new(limit: usize) -> List {
-        List { places: [0; LIMIT], length: 0, limit }
+impl Pages {
+    pub fn new(limit: usize) -> Pages {
+        Pages { places: [0; LIMIT], length: 0, limit }
     }
 
-    /// LRU: the page moves to place 1 and those before it shift. Answers the depth, or 0.
+    /// The page moves to place 1 and those before it shift. Answers the depth, or 0.
     #[inline]
     pub fn shift(&mut self, page: u16) -> usize {
         let length = self.length;
@@ -32,35 +33,40 @@ impl List {
         self.places[0] = page;
         found.map_or(0, |at| at + 1)
     }
+}
 
-    /// Any priority: of two pages the one with the larger key stays, and no two pages have the same key. Answers the
-    /// depth, or 0.
+/// The list under any other policy: entries, of which the larger stays. Only the referenced page's entry ever changes.
+#[derive(Clone)]
+pub struct Entries {
+    pub places: [u32; LIMIT],
+    pub length: usize,
+    limit: usize,
+}
+
+impl Entries {
+    pub fn new(limit: usize) -> Entries {
+        Entries { places: [0; LIMIT], length: 0, limit }
+    }
+
+    /// A reference to the page whose entry was `old` and is `new` from now on. Answers the depth, or 0.
     #[inline]
-    pub fn carry(&mut self, page: u16, keys: &[u32; PAGES]) -> usize {
-        let key = |page: u16| keys[usize::from(page) % PAGES];
+    pub fn carry(&mut self, old: u32, new: u32) -> usize {
         let length = self.length;
-        if length == 0 {
-            self.places[0] = page;
-            self.length = 1;
-            return 0;
+        let mut carried = new;
+        if length > 0 {
+            carried = std::mem::replace(&mut self.places[0], new);
+            if carried == old {
+                return 1;
+            }
         }
-        let mut carried = self.places[0];
-        if carried == page {
-            return 1;
-        }
-        self.places[0] = page;
-        let mut carried_key = key(carried);
         for (i, place) in self.places[..length].iter_mut().enumerate().skip(1) {
             let here = *place;
-            if here == page {
+            if here == old {
                 *place = carried;
                 return i + 1;
             }
-            let here_key = key(here);
-            let stays = here_key > carried_key;
-            *place = if stays { here } else { carried };
-            carried = if stays { carried } else { here };
-            carried_key = carried_key.min(here_key);
+            *place = carried.max(here);
+            carried = carried.min(here);
         }
         if length < self.limit {
             self.places[length] = carried;
@@ -72,14 +78,18 @@ impl List {
 
 /// A rank and, below it, the tie rule: the smaller page number is higher.
 #[inline]
-pub fn key(rank: usize, page: usize) -> u32 {
+pub fn entry(rank: usize, page: usize) -> u32 {
     (rank * PAGES + (PAGES - 1 - page)) as u32
 }
 
-/// The keys of pages that all have rank 0.
-pub fn lowest_keys() -> [u32; PAGES] {
-    std::array::from_fn(|page| key(0, page))
+/// What one rank more adds to an entry.
+pub const RANK: u32 = PAGES as u32;
+
+pub fn page_of(entry: u32) -> u16 {
+    (RANK - 1 - entry % RANK) as u16
 }
 
-/// What one rank more adds to a key.
-pub const RANK: u32 = PAGES as u32;
+/// The entries of pages that all have rank 0.
+pub fn lowest() -> [u32; PAGES] {
+    std::array::from_fn(|page| entry(0, page))
+}
