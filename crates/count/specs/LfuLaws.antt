@@ -1,5 +1,5 @@
 -- LFU's table of counts, reference by reference: the entries that the code makes of it, and the table after the reference.
-use Prim.Native.Nat.{ℕ, zero, suc, _+_, _*_, _-_, _≤_, _<_}
+use Prim.Native.Nat.{ℕ, zero, suc, _+_, _<_}
 use native.Mathlib.Omega.{arith}
 use native.Mathlib.Numerals.{add-one}
 use mathlib.Core.Path.{_≡_, refl, sym, _∙_, ap}
@@ -26,12 +26,12 @@ module _ {trace : List ℕ} {k t : ℕ} (fit : Fit trace k t) (i : ℕ) (h : i <
   more : before trace (i + 1) ≡ getD trace i 0 ∷ before trace i
   more = before-next trace i (omega (arith, fit .within))
 
-  pub lfu-old : (old : ℕ) → old ≡ getD counts (getD trace i 0) 0 * 65536 + (65535 - getD trace i 0)
+  pub lfu-old : (old : ℕ) → old ≡ entry (λ p. getD counts (getD trace i 0) 0) (getD trace i 0)
       → old ≡ entry (frequency (before trace i) (drop i trace)) (getD trace i 0)
   unfolding entry frequency
   lfu-old old o = rw (o, counted (getD trace i 0))
 
-  pub lfu-new : (new : ℕ) → new ≡ (getD counts (getD trace i 0) 0 + 1) * 65536 + (65535 - getD trace i 0)
+  pub lfu-new : (new : ℕ) → new ≡ entry (λ p. getD counts (getD trace i 0) 0 + 1) (getD trace i 0)
       → new ≡ entry (frequency (before trace (i + 1)) (drop (i + 1) trace)) (getD trace i 0)
   unfolding entry frequency
   lfu-new new o = rw (o, more, times-again (getD trace i 0) (before trace i), counted (getD trace i 0))

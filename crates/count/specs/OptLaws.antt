@@ -7,12 +7,11 @@ use mathlib.Core.List.{List, [], _∷_, _++_, append-assoc}
 use lib.ListN.{length, take, drop, getD, set, take-append-drop, length-drop, length-take, List·getD-append}
 use lib.Seq.{take-suc, drop-cons, set-at, drop-length, length-take-le, take-length}
 use borrow.Author.Tests.{eq-eqb}
-use Rattle.rules.specs.Limits.{pages, references}
+use Rattle.rules.specs.Limits.{pages}
 use Rattle.theory.specs.Policy.{nearness}
 use Rattle.kept.specs.Below.{Below}
 use Rattle.kept.specs.Entries.{entry}
 use Rattle.kept.specs.KeptPolicies.{sooner}
-use Rattle.kept.specs.Recency.{nearness-most}
 use Rattle.kept.specs.Nexts.{coming, coming-is, nexts, nexts-at, nexts-length}
 use Rattle.count.specs.Runs.{Fit, LookAhead}
 use Rattle.count.specs.RunLaws.{before, below-at}
@@ -81,7 +80,7 @@ module _ {trace : List ℕ} {k t : ℕ} (fit : Fit trace k t) (i : ℕ) (h : i <
   here : drop i trace ≡ getD trace i 0 ∷ drop (suc i) trace
   here = drop-cons trace i 0 (omega (arith, fit .within))
 
-  pub opt-old : (old : ℕ) → old ≡ (length trace - i) * 65536 + (65535 - getD trace i 0)
+  pub opt-old : (old : ℕ) → old ≡ entry (λ p. length trace - i) (getD trace i 0)
       → old ≡ entry (sooner (before trace i) (drop i trace)) (getD trace i 0)
   unfolding entry sooner nearness
   opt-old old o =
@@ -96,12 +95,8 @@ module _ {trace : List ℕ} {k t : ℕ} (fit : Fit trace k t) (i : ℕ) (h : i <
       (nexts-at trace i (omega (arith, fit .within)))
 
   pub opt-new : (found memory : List ℕ) → found ≡ nexts trace ++ drop (length trace) memory → (new : ℕ)
-      → new ≡ getD found i 0 * 65536 + (65535 - getD trace i 0)
+      → new ≡ entry (λ p. getD found i 0) (getD trace i 0)
       → new ≡ entry (sooner (before trace (i + 1)) (drop (i + 1) trace)) (getD trace i 0)
   unfolding entry sooner
   opt-new found memory f new o =
       rw (o, next-found found memory f, add-one)
-
-  pub next-fits : (found memory : List ℕ) → found ≡ nexts trace ++ drop (length trace) memory → getD found i 0 ≤ references
-  next-fits found memory f =
-      rw (next-found found memory f) (omega (arith, nearness-most (getD trace i 0) (drop (suc i) trace), length-drop (suc i) trace, fit .short))

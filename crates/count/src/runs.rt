@@ -4,7 +4,6 @@ ghost use Rattle.kept.specs.Nexts.{nexts as «of-nexts»};
 ghost use lib.ListN.{length, drop};
 ghost use mathlib.Core.List.{_++_};
 ghost use Rattle.theory.specs.Policy.{lru, lfu, opt, policyOf};
-ghost use Prim.Native.Nat.{_+_, _*_, _-_};
 ghost use mathlib.Core.Path.{_≡_};
 use rules::CAPACITIES;
 use rules::LFU;
@@ -46,7 +45,7 @@ fn run_lru(trace: &[u16], k: usize, t: usize) -> Run
     let mut i = 0;
     while i < t {
         let page = trace[i];
-        let s = step::shift(&mut list, length, k, entry(0, page));
+        let s = step::shift(&mut list, length, k, step::entry(0, page));
         let d = s.depth;
         depths[d] = depths[d] + 1;
         length = s.length;
@@ -77,8 +76,8 @@ fn run_lfu(trace: &[u16], k: usize, t: usize) -> Run
             &mut list,
             length,
             k,
-            entry(count, page),
-            entry(count + 1, page),
+            step::entry(count, page),
+            step::entry(count + 1, page),
         );
         counts[at] = count + 1;
         let d = s.depth;
@@ -111,8 +110,8 @@ fn run_opt(trace: &[u16], k: usize, t: usize) -> Run
             &mut list,
             length,
             k,
-            entry(near, page),
-            entry(nexts[i], page),
+            step::entry(near, page),
+            step::entry(nexts[i], page),
         );
         let d = s.depth;
         depths[d] = depths[d] + 1;
@@ -140,11 +139,4 @@ fn look_ahead(trace: &[u16], nexts: &mut [u16; REFERENCES])
         nexts[i] = coming[at];
         coming[at] = near;
     }
-}
-
-// The entry of a page of this rank.
-fn entry(rank: u16, page: u16) -> u32
-    ensures { λ r. ⌜ r ≡ rank * 65536 + (65535 - page) ⌝ }
-{
-    (rank as u32) * 65536 + (65535 - (page as u32))
 }

@@ -9,3 +9,4 @@ pub mod Nexts
 pub mod EntryLaws
 pub mod Recency
 pub mod KeptPolicies
+pub mod PastOnly

@@ -4,3 +4,4 @@ pub mod Refusals
 pub mod Cases
 pub mod Case
 pub mod FirstBad
+pub mod AnswerLaws

@@ -13,53 +13,11 @@ use borrow.Rule.Slice.PartMut.{putMid, midOf, postOf}
 use Rattle.theory.specs.Priority.{Priority, higher, lower}
 use Rattle.theory.specs.OnePass.{carry, depth, depthFrom}
 use Rattle.kept.specs.Entries.{put, always}
+use Rattle.step.specs.PutLaws.{depth-zero, depth-later, carry-length}
 use Rattle.theory.specs.Depth.{depth-most}
 use Rattle.rules.specs.Cases.{by-cases}
 use Rattle.step.specs.declared.Carried.{Carried}
 use Rattle.step.specs.Stepped.{Carrying, Placed}
-
--- a page that is not there has depth 0, wherever counting starts
-depth-zero : (i j x : ℕ) (l : List ℕ) → depthFrom (suc i) x l ≡ 0 → depthFrom (suc j) x l ≡ 0
-unfolding depthFrom
-depth-zero i j x [] h = refl
-depth-zero i j x (z ∷ l) h =
-    by-cases (eqb z x) (λ e. absurd (omega (arith, rw e at h))) (λ e. rw e (depth-zero (suc i) (suc j) x l (rw e at h)))
-
--- counting that starts one place later ends one place later
-depth-later : (i x : ℕ) (l : List ℕ) → (depthFrom (suc i) x l ≡ 0 → ⊥) → depthFrom (suc (suc i)) x l ≡ depthFrom (suc i) x l + 1
-unfolding depthFrom
-depth-later i x [] h = absurd (h refl)
-depth-later i x (z ∷ l) h =
-    by-cases (eqb z x) (λ e. rw e (omega arith))
-    (λ e. rw e (depth-later (suc i) x l (λ q. h (rw e q))))
-
--- where the old entry is found, as many places are filled as there were
-carry-length : (above : Priority) (i old y : ℕ) (l : List ℕ) → (depthFrom (suc i) old l ≡ 0 → ⊥) → length (carry above old y l) ≡ length l
-unfolding depthFrom carry
-carry-length above i old y [] h = absurd (h refl)
-carry-length above i old y (z ∷ l) h =
-    by-cases (eqb z old) (λ e. rw e)
-    (λ e. rw (e, carry-length above (suc i) old (lower above y z) l (λ q. h (rw e q))))
-
--- where it is not, there is one entry more than there are places
-carry-longer : (above : Priority) (i old y : ℕ) (l : List ℕ) → depthFrom (suc i) old l ≡ 0 → length (carry above old y l) ≡ suc (length l)
-unfolding depthFrom carry
-carry-longer above i old y [] h = refl
-carry-longer above i old y (z ∷ l) h =
-    by-cases (eqb z old) (λ e. absurd (omega (arith, rw e at h)))
-    (λ e. rw (e, carry-longer above (suc i) old (lower above y z) l (rw e at h)))
-
-pub put-length : (above : Priority) (old new : ℕ) (l : List ℕ) → (depth old l ≡ 0 → ⊥) → length (put above old new l) ≡ length l
-unfolding depthFrom put
-put-length above old new [] h = absurd (h refl)
-put-length above old new (y ∷ l) h =
-    by-cases (eqb y old) (λ e. rw e) (λ e. rw (e, carry-length above 1 old y l (λ q. h (rw e q))))
-
-pub put-longer : (above : Priority) (old new : ℕ) (l : List ℕ) → depth old l ≡ 0 → length (put above old new l) ≡ suc (length l)
-unfolding depthFrom put
-put-longer above old new [] h = refl
-put-longer above old new (y ∷ l) h =
-    by-cases (eqb y old) (λ e. absurd (omega (arith, rw e at h))) (λ e. rw (e, carry-longer above 1 old y l (rw e at h)))
 
 -- under LRU carrying begins with the entry itself, from place 1 on
 carry-put : (entry : ℕ) (l : List ℕ) → carry always entry entry l ≡ put always entry entry l

@@ -16,7 +16,7 @@ use Rattle.kept.specs.Entries.{put}
 use Rattle.step.specs.declared.Carried.{Carried}
 use Rattle.step.specs.declared.Step.{Step}
 use Rattle.step.specs.Stepped.{Placed, Settled, Stepped, next, grows}
-use Rattle.step.proofs.FirstPlace.{put-length, put-longer}
+use Rattle.step.specs.PutLaws.{put-length, put-longer}
 
 pub settle-grown : (used k : ℕ) (c : Carried) (l : List ℕ) → c .depth ≡ 0 → used < k → used < length l
     → Settled used k c l (set l used (c .last)) (record { depth = c .depth; length = used + 1 })

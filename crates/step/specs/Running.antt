@@ -52,7 +52,7 @@ module _ (policy : Policy) (ranking : Ranking) (shown : Priority) (keeps : Keeps
   few : length (take n memory) ≤ k
   few = rw (run .places, kept-length ranking policy k past (x ∷ to)) (at-most policy (keeps .orders) k past (x ∷ to))
 
-  next-is : next shown k (entry (ranking past (x ∷ to)) x) (entry (ranking (x ∷ past) to) x) n memory ≡ kept ranking policy k (x ∷ past) to
+  pub next-is : next shown k (entry (ranking past (x ∷ to)) x) (entry (ranking (x ∷ past) to) x) n memory ≡ kept ranking policy k (x ∷ past) to
   unfolding next
   next-is =
       let cut : max (length (take n memory)) (min k (length memory)) ≡ k = omega (arith, few, run .room) in

@@ -6,7 +6,7 @@ mod shifting;
 use shifting::find;
 use shifting::shift_down;
 ghost use Rattle.step.specs.Stepped.{Carrying, Placed, Settled, Stepped};
-ghost use Rattle.kept.specs.Entries.{larger, always};
+ghost use Rattle.kept.specs.Entries.{entry as «entry-of», larger, always};
 ghost use Rattle.theory.specs.Priority.{higher as «of-higher», lower as «of-lower»};
 ghost use Prim.Native.Nat.{min};
 ghost use mathlib.Core.Path.{_≡_};
@@ -25,6 +25,13 @@ pub struct Step {
 struct Carried {
     depth: usize,
     last: u32,
+}
+
+// The entry of a page with a rank: the rank above, the page below, turned round since the smaller page number is the higher.
+pub fn entry(rank: u16, page: u16) -> u32
+    ensures { λ r. ⌜ r ≡ «entry-of» (λ p. rank) page ⌝ }
+{
+    (rank as u32) * 65536 + (65535 - (page as u32))
 }
 
 // No more places are in use than there are.

@@ -1,3 +1,4 @@
+-- The loop's invariant: the first bad page of the whole trace is the first bad one of what is left.
 use Prim.Native.Nat.{_-_, _≤_}
 use native.Mathlib.Omega.{arith}
 use mathlib.Core.Path.{_≡_, refl, sym, _∙_}
@@ -6,8 +7,6 @@ use borrow.Author.Needs.{needs}
 use Rattle.rules.specs.FirstBad.{firstBad, first-bad-at, first-bad-next, first-bad-end}
 use Rattle.count.proofs.checks.first_bad.Statement.{statement}
 use Rattle.count.proofs.checks.first_bad.Tie as tie
-use Rattle.count.proofs.checks.first_bad.Reads as reads
-use Rattle.count.proofs.checks.first_bad.Lts as lts
 
 abbrev Inv-loop : tie.InvT-loop
 Inv-loop trace i₀ i = (i ≤ length trace) × (firstBad 0 trace ≡ firstBad i (drop i trace))
@@ -15,35 +14,27 @@ Inv-loop trace i₀ i = (i ≤ length trace) × (firstBad 0 trace ≡ firstBad i
 abbrev μ-loop : tie.MeasureT-loop
 μ-loop trace i₀ i = length trace - i
 
--- src/checks.rt:37:5
 loop-holds : tie.Need-loop-holds Inv-loop μ-loop
 loop-holds c = (omega arith, refl)
 
--- src/checks.rt:38:21
 mul-if1 : tie.Need-mul-if1 Inv-loop μ-loop
 mul-if1 c = search needs
 
--- src/checks.rt:38:21
 shared-slice-read-if1 : tie.Need-shared-slice-read-if1 Inv-loop μ-loop
 shared-slice-read-if1 c = search needs
 
--- src/checks.rt:39:13
 returns : tie.Need-returns Inv-loop μ-loop
 returns c = sym (c .before .before .before .loop .inv .1 ∙ first-bad-at (c .before .before .before .before .args .trace .now) (c .before .before .before .loop .i) (omega arith) (c .if1 .taken))
 
--- src/checks.rt:41:9
 add-i : tie.Need-add-i Inv-loop μ-loop
 add-i c = search needs
 
--- src/checks.rt:37:5
 loop-less : tie.Need-loop-less Inv-loop μ-loop
 loop-less c = search needs
 
--- src/checks.rt:37:5
 loop-again : tie.Need-loop-again Inv-loop μ-loop
 loop-again c = (omega arith, c .before .before .before .loop .inv .1 ∙ first-bad-next (c .before .before .before .before .args .trace .now) (c .before .before .before .loop .i) (omega arith) (c .if1 .left))
 
--- src/checks.rt:33:1
 returns-2 : tie.Need-returns-2 Inv-loop μ-loop
 returns-2 c = sym (c .before .loop .inv .1 ∙ first-bad-end (c .before .before .args .trace .now) (c .before .loop .i) (omega arith))
 

@@ -1,27 +1,21 @@
+-- Each return rewrites with the tests that led there.
 use borrow.Author.Tests.{le-leb, lt-leb, lt-ltb, le-ltb}
 use Rattle.count.proofs.checks.limits.Statement.{statement}
 use Rattle.count.proofs.checks.limits.Tie as tie
-use Rattle.count.proofs.checks.limits.Reads as reads
-use Rattle.count.proofs.checks.limits.Lts as lts
 
--- src/checks.rt:18:9
 returns : tie.Need-returns
 returns c = rw (le-leb _ _ (c .if1 .taken))
 
--- src/checks.rt:21:9
 returns-2 : tie.Need-returns-2
 returns-2 c = rw (lt-leb _ _ (c .before .if1 .left), lt-leb _ _ (c .if2 .taken))
 
--- src/checks.rt:24:9
 returns-3 : tie.Need-returns-3
 returns-3 c = rw (lt-leb _ _ (c .before .before .if1 .left), le-leb _ _ (c .before .if2 .left), lt-leb _ _ (c .if3 .taken))
 
--- src/checks.rt:27:9
 returns-4 : tie.Need-returns-4
 returns-4 c =
     rw (lt-leb _ _ (c .before .before .before .if1 .left), le-leb _ _ (c .before .before .if2 .left), le-leb _ _ (c .before .if3 .left), lt-ltb _ _ (c .if4 .taken))
 
--- src/checks.rt:14:1
 returns-5 : tie.Need-returns-5
 returns-5 c =
     rw (lt-leb _ _ (c .before .before .before .if1 .left), le-leb _ _ (c .before .before .if2 .left), le-leb _ _ (c .before .if3 .left), le-ltb _ _ (c .if4 .left))

@@ -1,13 +1,12 @@
+-- The loop's invariant: what the backward pass has found when i references are left.
 use Prim.Native.Nat.{_-_}
 use native.Mathlib.Omega.{arith}
-use borrow.Author.Needs.{needs}
 use mathlib.Core.Path.{_≡_, refl}
+use borrow.Author.Needs.{needs}
 use Rattle.kept.specs.Nexts.{coming}
 use Rattle.count.specs.OptLaws.{Ahead, ahead-start, ahead-next, ahead-end, ahead-page}
 use Rattle.count.proofs.runs.look_ahead.Statement.{statement}
 use Rattle.count.proofs.runs.look_ahead.Tie as tie
-use Rattle.count.proofs.runs.look_ahead.Reads as reads
-use Rattle.count.proofs.runs.look_ahead.Lts as lts
 
 abbrev Inv-loop : tie.InvT-loop
 Inv-loop trace nexts₀ coming₀ i₀ nexts coming i = Ahead trace nexts₀ i nexts coming
@@ -15,72 +14,55 @@ Inv-loop trace nexts₀ coming₀ i₀ nexts coming i = Ahead trace nexts₀ i n
 abbrev μ-loop : tie.MeasureT-loop
 μ-loop trace nexts₀ coming₀ i₀ nexts coming i = i
 
--- src/runs.rt:119:5
 loop-holds : tie.Need-loop-holds Inv-loop μ-loop
 unfolding coming
 loop-holds c = ahead-start refl
 
--- src/runs.rt:120:21
 sub-near : tie.Need-sub-near Inv-loop μ-loop
 sub-near c = search needs
 
--- src/runs.rt:120:21
 add-near : tie.Need-add-near Inv-loop μ-loop
 add-near c = search needs
 
--- src/runs.rt:120:20
 cast-near : tie.Need-cast-near Inv-loop μ-loop
 cast-near c = search needs
 
--- src/runs.rt:121:9
 sub-i : tie.Need-sub-i Inv-loop μ-loop
 sub-i c = search needs
 
--- src/runs.rt:122:18
 mul-at : tie.Need-mul-at Inv-loop μ-loop
 mul-at c = search needs
 
--- src/runs.rt:122:18
 shared-slice-read-at : tie.Need-shared-slice-read-at Inv-loop μ-loop
 shared-slice-read-at c = search needs
 
--- src/runs.rt:122:18
 cast-at : tie.Need-cast-at Inv-loop μ-loop
 cast-at c = omega (arith, ahead-page (c .before .before .before .pre) (c .before .before .loop .i - 1) (omega arith))
 
--- src/runs.rt:123:20
 mul-nexts : tie.Need-mul-nexts Inv-loop μ-loop
 mul-nexts c = omega (arith, ahead-page (c .before .before .before .pre) (c .before .before .loop .i - 1) (omega arith))
 
--- src/runs.rt:123:20
 array-read-nexts : tie.Need-array-read-nexts Inv-loop μ-loop
 array-read-nexts c = omega (arith, ahead-page (c .before .before .before .pre) (c .before .before .loop .i - 1) (omega arith))
 
--- src/runs.rt:123:9
 mul-nexts-2 : tie.Need-mul-nexts-2 Inv-loop μ-loop
 mul-nexts-2 c = search needs
 
--- src/runs.rt:123:9
 element-write-nexts : tie.Need-element-write-nexts Inv-loop μ-loop
 element-write-nexts c = search needs
 
--- src/runs.rt:124:9
 mul-coming : tie.Need-mul-coming Inv-loop μ-loop
 mul-coming c = omega (arith, ahead-page (c .before .before .before .pre) (c .before .before .loop .i - 1) (omega arith))
 
--- src/runs.rt:124:9
 array-write-coming : tie.Need-array-write-coming Inv-loop μ-loop
 array-write-coming c = omega (arith, ahead-page (c .before .before .before .pre) (c .before .before .loop .i - 1) (omega arith))
 
--- src/runs.rt:119:5
 loop-less : tie.Need-loop-less Inv-loop μ-loop
 loop-less c = search needs
 
--- src/runs.rt:119:5
 loop-again : tie.Need-loop-again Inv-loop μ-loop
 loop-again c = ahead-next (c .before .before .before .pre) (c .before .before .loop .i) (c .before .loop-test .taken) (c .before .before .loop .inv)
 
--- src/runs.rt:113:1
 returns : tie.Need-returns Inv-loop μ-loop
 returns c = ahead-end (c .before .loop .i) (omega arith) (c .before .loop .inv)
 

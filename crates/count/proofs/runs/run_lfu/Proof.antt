@@ -1,10 +1,10 @@
+-- The loop's invariant: the run so far, and the counts of the references so far.
 use Prim.Native.Nat.{_-_, _≤_}
 use native.Mathlib.Omega.{arith}
-use borrow.Author.Needs.{needs}
 use mathlib.Core.Path.{_≡_, refl, sym, _∙_}
 use lib.ListN.{drop, getD}
+use borrow.Author.Needs.{needs}
 use Rattle.theory.specs.Policy.{lfu}
-use Rattle.kept.specs.Entries.{entry}
 use Rattle.kept.specs.KeptPolicies.{frequency, keeps-lfu}
 use Rattle.kept.specs.Frequencies.{frequencies, frequencies-length, frequency-is, times-most}
 use Rattle.step.specs.Running.{Running, depth-inside, counted-few}
@@ -12,10 +12,6 @@ use Rattle.count.specs.LfuLaws.{lfu-old, lfu-new, lfu-counts}
 use Rattle.count.specs.RunLaws.{before, before-length, before-next, page-fits, count-fits, run-start, run-end, run-next}
 use Rattle.count.proofs.runs.run_lfu.Statement.{statement}
 use Rattle.count.proofs.runs.run_lfu.Tie as tie
-use Rattle.count.proofs.runs.run_lfu.Reads as reads
-use Rattle.count.proofs.runs.run_lfu.Lts as lts
-use Rattle.count.proofs.runs.entry.Reads as entry-reads
-use Rattle.step.proofs.place.Reads as place-reads
 
 abbrev Inv-loop : tie.InvT-loop
 Inv-loop trace k t list₀ depths₀ counts₀ length₀ i₀ list depths counts length i =
@@ -24,40 +20,31 @@ Inv-loop trace k t list₀ depths₀ counts₀ length₀ i₀ list depths counts
 abbrev μ-loop : tie.MeasureT-loop
 μ-loop trace k t list₀ depths₀ counts₀ length₀ i₀ list depths counts length i = t - i
 
--- src/runs.rt:55:5
 loop-holds : tie.Need-loop-holds Inv-loop μ-loop
 unfolding frequencies
 loop-holds c = (run-start keeps-lfu (c .before .pre), omega arith, refl)
 
--- src/runs.rt:56:20
 mul-page : tie.Need-mul-page Inv-loop μ-loop
 mul-page c = search needs
 
--- src/runs.rt:56:20
 shared-slice-read-page : tie.Need-shared-slice-read-page Inv-loop μ-loop
 shared-slice-read-page c = search needs
 
--- src/runs.rt:57:18
 cast-at : tie.Need-cast-at Inv-loop μ-loop
 cast-at c = omega (arith, page-fits (c .before .before .before .before .pre) (c .before .before .loop .i) (omega arith))
 
--- src/runs.rt:58:21
 mul-count : tie.Need-mul-count Inv-loop μ-loop
 mul-count c = omega (arith, page-fits (c .before .before .before .before .pre) (c .before .before .loop .i) (omega arith))
 
--- src/runs.rt:58:21
 array-read-count : tie.Need-array-read-count Inv-loop μ-loop
 array-read-count c = omega (arith, page-fits (c .before .before .before .before .pre) (c .before .before .loop .i) (omega arith))
 
--- src/runs.rt:60:13
 slice-aggregate-place : tie.Need-slice-aggregate-place Inv-loop μ-loop
 slice-aggregate-place c = search needs
 
--- src/runs.rt:63:13
 entry-requires : tie.Need-entry-requires Inv-loop μ-loop
 entry-requires c κs = search needs
 
--- src/runs.rt:64:19
 add-entry : tie.Need-add-entry Inv-loop μ-loop
 add-entry c =
     omega (
@@ -68,15 +55,12 @@ add-entry c =
           (getD (c .before .before .before .before .before .before .args .trace .now) (c .before .before .before .before .loop .i) 0),
     )
 
--- src/runs.rt:64:13
 entry-requires-2 : tie.Need-entry-requires-2 Inv-loop μ-loop
 entry-requires-2 c κs = search needs
 
--- src/runs.rt:59:13
 place-requires : tie.Need-place-requires Inv-loop μ-loop
 place-requires c κs = search needs
 
--- src/runs.rt:66:22
 add-counts : tie.Need-add-counts Inv-loop μ-loop
 add-counts c =
     omega (
@@ -87,23 +71,18 @@ add-counts c =
           (getD (c .before .before .before .before .before .before .before .before .before .args .trace .now) (c .before .before .before .before .before .before .before .loop .i) 0),
     )
 
--- src/runs.rt:66:9
 mul-counts : tie.Need-mul-counts Inv-loop μ-loop
 mul-counts c = omega (arith, page-fits (c .before .before .before .before .before .before .before .before .before .pre) (c .before .before .before .before .before .before .before .loop .i) (omega arith))
 
--- src/runs.rt:66:9
 array-write-counts : tie.Need-array-write-counts Inv-loop μ-loop
 array-write-counts c = omega (arith, page-fits (c .before .before .before .before .before .before .before .before .before .pre) (c .before .before .before .before .before .before .before .loop .i) (omega arith))
 
--- src/runs.rt:68:21
 mul-depths : tie.Need-mul-depths Inv-loop μ-loop
 mul-depths c = omega (arith, depth-inside (c .before .before .before .before .before .before .before .loop .inv .0) (c .before .place .ensures))
 
--- src/runs.rt:68:21
 array-read-depths : tie.Need-array-read-depths Inv-loop μ-loop
 array-read-depths c = omega (arith, depth-inside (c .before .before .before .before .before .before .before .loop .inv .0) (c .before .place .ensures))
 
--- src/runs.rt:68:21
 add-depths : tie.Need-add-depths Inv-loop μ-loop
 add-depths c =
     omega (
@@ -112,23 +91,18 @@ add-depths c =
       before-length (c .before .before .before .before .before .before .before .before .before .args .trace .now) (c .before .before .before .before .before .before .before .loop .i) (omega arith),
     )
 
--- src/runs.rt:68:9
 mul-depths-2 : tie.Need-mul-depths-2 Inv-loop μ-loop
 mul-depths-2 c = omega (arith, depth-inside (c .before .before .before .before .before .before .before .loop .inv .0) (c .before .place .ensures))
 
--- src/runs.rt:68:9
 array-write-depths : tie.Need-array-write-depths Inv-loop μ-loop
 array-write-depths c = omega (arith, depth-inside (c .before .before .before .before .before .before .before .loop .inv .0) (c .before .place .ensures))
 
--- src/runs.rt:70:9
 add-i : tie.Need-add-i Inv-loop μ-loop
 add-i c = search needs
 
--- src/runs.rt:55:5
 loop-less : tie.Need-loop-less Inv-loop μ-loop
 loop-less c = search needs
 
--- src/runs.rt:55:5
 loop-again : tie.Need-loop-again Inv-loop μ-loop
 loop-again c =
     let fit = c .before .before .before .before .before .before .before .before .before .pre in
@@ -141,7 +115,6 @@ loop-again c =
       lfu-counts fit i (omega arith) counts counted,
     )
 
--- src/runs.rt:46:1
 returns : tie.Need-returns Inv-loop μ-loop
 returns c = run-end keeps-lfu (c .before .before .before .pre) (c .before .loop .i) (c .before .loop .inv .0) (omega arith)
 

@@ -1,8 +1,9 @@
+-- The loop's invariant: the run so far.
 use Prim.Native.Nat.{_-_, _≤_}
 use native.Mathlib.Omega.{arith}
-use borrow.Author.Needs.{needs}
 use mathlib.Core.Path.{_≡_, refl, sym, _∙_}
 use lib.ListN.{drop}
+use borrow.Author.Needs.{needs}
 use Rattle.theory.specs.Policy.{lru}
 use Rattle.kept.specs.Entries.{entry}
 use Rattle.kept.specs.KeptPolicies.{unranked, keeps-lru}
@@ -10,10 +11,6 @@ use Rattle.step.specs.Running.{Running, depth-inside, counted-few}
 use Rattle.count.specs.RunLaws.{before, before-length, run-start, run-end, run-next}
 use Rattle.count.proofs.runs.run_lru.Statement.{statement}
 use Rattle.count.proofs.runs.run_lru.Tie as tie
-use Rattle.count.proofs.runs.run_lru.Reads as reads
-use Rattle.count.proofs.runs.run_lru.Lts as lts
-use Rattle.count.proofs.runs.entry.Reads as entry-reads
-use Rattle.step.proofs.shift.Reads as shift-reads
 
 abbrev Inv-loop : tie.InvT-loop
 Inv-loop trace k t list₀ depths₀ length₀ i₀ list depths length i =
@@ -22,39 +19,30 @@ Inv-loop trace k t list₀ depths₀ length₀ i₀ list depths length i =
 abbrev μ-loop : tie.MeasureT-loop
 μ-loop trace k t list₀ depths₀ length₀ i₀ list depths length i = t - i
 
--- src/runs.rt:30:5
 loop-holds : tie.Need-loop-holds Inv-loop μ-loop
 loop-holds c = (run-start keeps-lru (c .before .pre), omega arith)
 
--- src/runs.rt:31:20
 mul-page : tie.Need-mul-page Inv-loop μ-loop
 mul-page c = search needs
 
--- src/runs.rt:31:20
 shared-slice-read-page : tie.Need-shared-slice-read-page Inv-loop μ-loop
 shared-slice-read-page c = search needs
 
--- src/runs.rt:32:29
 slice-aggregate-shift : tie.Need-slice-aggregate-shift Inv-loop μ-loop
 slice-aggregate-shift c = search needs
 
--- src/runs.rt:32:51
 entry-requires : tie.Need-entry-requires Inv-loop μ-loop
 entry-requires c κs = search needs
 
--- src/runs.rt:32:13
 shift-requires : tie.Need-shift-requires Inv-loop μ-loop
 shift-requires c κs = search needs
 
--- src/runs.rt:34:21
 mul-depths : tie.Need-mul-depths Inv-loop μ-loop
 mul-depths c = omega (arith, depth-inside (c .before .before .before .before .before .before .loop .inv .0) (c .before .shift .ensures))
 
--- src/runs.rt:34:21
 array-read-depths : tie.Need-array-read-depths Inv-loop μ-loop
 array-read-depths c = omega (arith, depth-inside (c .before .before .before .before .before .before .loop .inv .0) (c .before .shift .ensures))
 
--- src/runs.rt:34:21
 add-depths : tie.Need-add-depths Inv-loop μ-loop
 add-depths c =
     omega (
@@ -63,23 +51,18 @@ add-depths c =
       before-length (c .before .before .before .before .before .before .before .before .args .trace .now) (c .before .before .before .before .before .before .loop .i) (omega arith),
     )
 
--- src/runs.rt:34:9
 mul-depths-2 : tie.Need-mul-depths-2 Inv-loop μ-loop
 mul-depths-2 c = omega (arith, depth-inside (c .before .before .before .before .before .before .loop .inv .0) (c .before .shift .ensures))
 
--- src/runs.rt:34:9
 array-write-depths : tie.Need-array-write-depths Inv-loop μ-loop
 array-write-depths c = omega (arith, depth-inside (c .before .before .before .before .before .before .loop .inv .0) (c .before .shift .ensures))
 
--- src/runs.rt:36:9
 add-i : tie.Need-add-i Inv-loop μ-loop
 add-i c = search needs
 
--- src/runs.rt:30:5
 loop-less : tie.Need-loop-less Inv-loop μ-loop
 loop-less c = search needs
 
--- src/runs.rt:30:5
 loop-again : tie.Need-loop-again Inv-loop μ-loop
 unfolding unranked entry
 loop-again c = (
@@ -88,7 +71,6 @@ loop-again c = (
   omega arith,
 )
 
--- src/runs.rt:22:1
 returns : tie.Need-returns Inv-loop μ-loop
 returns c = run-end keeps-lru (c .before .before .before .pre) (c .before .loop .i) (c .before .loop .inv .0) (omega arith)
 

@@ -1,21 +1,17 @@
+-- The loop's invariant: the run so far. The backward pass has found each reference's next rank.
 use Prim.Native.Nat.{ℕ, _-_, _≤_}
 use native.Mathlib.Omega.{arith}
-use borrow.Author.Needs.{needs}
 use mathlib.Core.Path.{_≡_, refl}
 use lib.ListN.{drop, length-replicate}
+use borrow.Author.Needs.{needs}
 use Rattle.rules.specs.Limits.{references}
 use Rattle.theory.specs.Policy.{opt}
 use Rattle.kept.specs.KeptPolicies.{sooner, keeps-opt}
 use Rattle.step.specs.Running.{Running, depth-inside, counted-few}
-use Rattle.count.specs.OptLaws.{opt-old, opt-new, next-fits}
+use Rattle.count.specs.OptLaws.{opt-old, opt-new}
 use Rattle.count.specs.RunLaws.{before, before-length, run-start, run-end, run-next}
 use Rattle.count.proofs.runs.run_opt.Statement.{statement}
 use Rattle.count.proofs.runs.run_opt.Tie as tie
-use Rattle.count.proofs.runs.run_opt.Reads as reads
-use Rattle.count.proofs.runs.run_opt.Lts as lts
-use Rattle.count.proofs.runs.entry.Reads as entry-reads
-use Rattle.count.proofs.runs.look_ahead.Reads as look-ahead-reads
-use Rattle.step.proofs.place.Reads as place-reads
 
 abbrev Inv-loop : tie.InvT-loop
 Inv-loop trace k t nexts list₀ depths₀ length₀ i₀ list depths length i =
@@ -24,63 +20,48 @@ Inv-loop trace k t nexts list₀ depths₀ length₀ i₀ list depths length i =
 abbrev μ-loop : tie.MeasureT-loop
 μ-loop trace k t nexts list₀ depths₀ length₀ i₀ list depths length i = t - i
 
--- src/runs.rt:85:5
 look-ahead-requires : tie.Need-look-ahead-requires Inv-loop μ-loop
 look-ahead-requires c κs = record { short = c .before .before .pre .short; good = c .before .before .pre .good; room = length-replicate {A = ℕ} references 0 }
 
--- src/runs.rt:90:5
 loop-holds : tie.Need-loop-holds Inv-loop μ-loop
 loop-holds c = (run-start keeps-opt (c .before .before .before .pre), omega arith)
 
--- src/runs.rt:91:20
 mul-page : tie.Need-mul-page Inv-loop μ-loop
 mul-page c = search needs
 
--- src/runs.rt:91:20
 shared-slice-read-page : tie.Need-shared-slice-read-page Inv-loop μ-loop
 shared-slice-read-page c = search needs
 
--- src/runs.rt:92:21
 sub-near : tie.Need-sub-near Inv-loop μ-loop
 sub-near c = search needs
 
--- src/runs.rt:92:20
 cast-near : tie.Need-cast-near Inv-loop μ-loop
 cast-near c = search needs
 
--- src/runs.rt:94:13
 slice-aggregate-place : tie.Need-slice-aggregate-place Inv-loop μ-loop
 slice-aggregate-place c = search needs
 
--- src/runs.rt:97:13
 entry-requires : tie.Need-entry-requires Inv-loop μ-loop
 entry-requires c κs = search needs
 
--- src/runs.rt:98:19
 mul-entry : tie.Need-mul-entry Inv-loop μ-loop
 mul-entry c = search needs
 
--- src/runs.rt:98:19
 array-read-entry : tie.Need-array-read-entry Inv-loop μ-loop
 array-read-entry c = search needs
 
--- src/runs.rt:98:13
 entry-requires-2 : tie.Need-entry-requires-2 Inv-loop μ-loop
 entry-requires-2 c κs = search needs
 
--- src/runs.rt:93:13
 place-requires : tie.Need-place-requires Inv-loop μ-loop
 place-requires c κs = search needs
 
--- src/runs.rt:101:21
 mul-depths : tie.Need-mul-depths Inv-loop μ-loop
 mul-depths c = omega (arith, depth-inside (c .before .before .before .before .before .before .before .loop .inv .0) (c .before .place .ensures))
 
--- src/runs.rt:101:21
 array-read-depths : tie.Need-array-read-depths Inv-loop μ-loop
 array-read-depths c = omega (arith, depth-inside (c .before .before .before .before .before .before .before .loop .inv .0) (c .before .place .ensures))
 
--- src/runs.rt:101:21
 add-depths : tie.Need-add-depths Inv-loop μ-loop
 add-depths c =
     omega (
@@ -91,23 +72,18 @@ add-depths c =
       c .before .before .before .before .before .before .before .before .before .before .before .pre .within,
     )
 
--- src/runs.rt:101:9
 mul-depths-2 : tie.Need-mul-depths-2 Inv-loop μ-loop
 mul-depths-2 c = omega (arith, depth-inside (c .before .before .before .before .before .before .before .loop .inv .0) (c .before .place .ensures))
 
--- src/runs.rt:101:9
 array-write-depths : tie.Need-array-write-depths Inv-loop μ-loop
 array-write-depths c = omega (arith, depth-inside (c .before .before .before .before .before .before .before .loop .inv .0) (c .before .place .ensures))
 
--- src/runs.rt:103:9
 add-i : tie.Need-add-i Inv-loop μ-loop
 add-i c = search needs
 
--- src/runs.rt:90:5
 loop-less : tie.Need-loop-less Inv-loop μ-loop
 loop-less c = search needs
 
--- src/runs.rt:90:5
 loop-again : tie.Need-loop-again Inv-loop μ-loop
 loop-again c =
     let fit = c .before .before .before .before .before .before .before .before .before .before .before .pre in
@@ -118,7 +94,6 @@ loop-again c =
       omega (arith, c .before .before .before .before .before .before .loop-test .taken),
     )
 
--- src/runs.rt:80:1
 returns : tie.Need-returns Inv-loop μ-loop
 returns c = run-end keeps-opt (c .before .before .before .before .before .pre) (c .before .loop .i) (c .before .loop .inv .0) (omega arith)
 

@@ -1,38 +1,28 @@
+-- The policy's number picks the run.
 use borrow.Author.Tests.{eq-eqb, ne-eqb}
+use borrow.Author.Needs.{needs}
 use Rattle.rules.specs.Limits.{lru, lfu}
 use Rattle.theory.specs.Policy.{policyOf}
-use borrow.Author.Needs.{needs}
 use Rattle.count.proofs.runs.run_policy.Statement.{statement}
 use Rattle.count.proofs.runs.run_policy.Tie as tie
-use Rattle.count.proofs.runs.run_policy.Reads as reads
-use Rattle.count.proofs.runs.run_policy.Lts as lts
-use Rattle.count.proofs.runs.run_lfu.Reads as run-lfu-reads
-use Rattle.count.proofs.runs.run_lru.Reads as run-lru-reads
-use Rattle.count.proofs.runs.run_opt.Reads as run-opt-reads
 
--- src/runs.rt:30:9
 run-lru-requires : tie.Need-run-lru-requires
 run-lru-requires c κs = search needs
 
--- src/runs.rt:30:9
 returns : tie.Need-returns
 unfolding policyOf
 returns c = rw (eq-eqb (c .before .before .before .args .policy) lru (c .before .if1 .taken)) (c .run-lru .ensures)
 
--- src/runs.rt:33:9
 run-lfu-requires : tie.Need-run-lfu-requires
 run-lfu-requires c κs = search needs
 
--- src/runs.rt:33:9
 returns-2 : tie.Need-returns-2
 unfolding policyOf
 returns-2 c = rw (ne-eqb (c .before .before .before .before .args .policy) lru (c .before .before .if1 .left), eq-eqb (c .before .before .before .before .args .policy) lfu (c .before .if2 .taken)) (c .run-lfu .ensures)
 
--- src/runs.rt:35:5
 run-opt-requires : tie.Need-run-opt-requires
 run-opt-requires c κs = search needs
 
--- src/runs.rt:25:1
 returns-3 : tie.Need-returns-3
 unfolding policyOf
 returns-3 c = rw (ne-eqb (c .before .before .before .before .args .policy) lru (c .before .before .if1 .left), ne-eqb (c .before .before .before .before .args .policy) lfu (c .before .if2 .left)) (c .run-opt .ensures)

@@ -1,3 +1,4 @@
+-- The loop's invariant: the sums of the capacities so far, and the rest of the table as it was.
 use Prim.Native.Nat.{ℕ, _+_, _-_, _≤_}
 use native.Mathlib.Omega.{arith}
 use mathlib.Core.Path.{_≡_, refl, ap, sym, _∙_}
@@ -7,9 +8,6 @@ use borrow.Author.Needs.{needs}
 use Rattle.count.specs.Table.{sumsFrom, upTo-grows, fill-next}
 use Rattle.count.proofs.table.fill.Statement.{statement}
 use Rattle.count.proofs.table.fill.Tie as tie
-use Rattle.count.proofs.table.fill.Reads as reads
-use Rattle.count.proofs.table.fill.Lts as lts
-use Rattle.count.proofs.table.sum.Reads as sum-reads
 
 abbrev Inv-loop : tie.InvT-loop
 Inv-loop depths k hits₀ c₀ hits c = (hits ≡ sumsFrom depths 1 c ++ drop c hits₀) × (c ≤ k) × (length hits ≡ length hits₀)
@@ -17,16 +15,13 @@ Inv-loop depths k hits₀ c₀ hits c = (hits ≡ sumsFrom depths 1 c ++ drop c 
 abbrev μ-loop : tie.MeasureT-loop
 μ-loop depths k hits₀ c₀ hits c = k - c
 
--- src/table.rt:12:5
 loop-holds : tie.Need-loop-holds Inv-loop μ-loop
 unfolding sumsFrom
 loop-holds c = (refl, omega arith, refl)
 
--- src/table.rt:13:31
 add-sum : tie.Need-add-sum Inv-loop μ-loop
 add-sum c = search needs
 
--- src/table.rt:13:19
 sum-requires : tie.Need-sum-requires Inv-loop μ-loop
 sum-requires c κs =
     record {
@@ -34,23 +29,18 @@ sum-requires c κs =
       small = omega (arith, c .before .before .before .before .pre .summable .small, upTo-grows (c .before .before .before .before .args .depths .now) (c .before .loop .c + 1) (c .before .before .before .before .args .k) (omega arith));
     }
 
--- src/table.rt:13:9
 mul-hits : tie.Need-mul-hits Inv-loop μ-loop
 mul-hits c = search needs
 
--- src/table.rt:13:9
 slice-write-hits : tie.Need-slice-write-hits Inv-loop μ-loop
 slice-write-hits c = search needs
 
--- src/table.rt:14:9
 add-c : tie.Need-add-c Inv-loop μ-loop
 add-c c = search needs
 
--- src/table.rt:12:5
 loop-less : tie.Need-loop-less Inv-loop μ-loop
 loop-less c = search needs
 
--- src/table.rt:12:5
 loop-again : tie.Need-loop-again Inv-loop μ-loop
 loop-again c = (
   rw (c .sum .ensures) (fill-next (c .before .before .before .before .before .args .depths .now) (c .before .before .loop .hits) (c .before .before .before .before .before .args .hits .now) (c .before .before .loop .c) (omega (arith, c .before .before .before .before .before .pre .entries)) (c .before .before .loop .inv .0)),
@@ -58,11 +48,9 @@ loop-again c = (
   simp length-set (omega arith),
 )
 
--- src/table.rt:7:1
 same-length : tie.Need-same-length Inv-loop μ-loop
 same-length c = search needs
 
--- src/table.rt:7:1
 returns : tie.Need-returns Inv-loop μ-loop
 returns c =
     record { filled = rw (ap (λ (n : ℕ). sumsFrom (c .before .before .before .before .args .depths .now) 1 n ++ drop n (c .before .before .before .before .args .hits .now)) (done c)) at (c .before .loop .inv .0) }

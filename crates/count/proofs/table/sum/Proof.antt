@@ -1,3 +1,4 @@
+-- The loop's invariant: the total is the sum of the depths so far.
 use Prim.Native.Nat.{_+_, _-_, _≤_}
 use native.Mathlib.Omega.{arith}
 use mathlib.Core.Path.{_≡_, refl, ap, _∙_}
@@ -6,8 +7,6 @@ use Rattle.kept.specs.Tally.{upTo}
 use Rattle.count.specs.Table.{upTo-step, upTo-grows}
 use Rattle.count.proofs.table.sum.Statement.{statement}
 use Rattle.count.proofs.table.sum.Tie as tie
-use Rattle.count.proofs.table.sum.Reads as reads
-use Rattle.count.proofs.table.sum.Lts as lts
 
 abbrev Inv-loop : tie.InvT-loop
 Inv-loop depths c total₀ d₀ total d = (total ≡ upTo depths d) × (d ≤ c)
@@ -15,36 +14,28 @@ Inv-loop depths c total₀ d₀ total d = (total ≡ upTo depths d) × (d ≤ c)
 abbrev μ-loop : tie.MeasureT-loop
 μ-loop depths c total₀ d₀ total d = c - d
 
--- src/table.rt:25:5
 loop-holds : tie.Need-loop-holds Inv-loop μ-loop
 unfolding upTo
 loop-holds c = (refl, omega arith)
 
--- src/table.rt:26:9
 add-d : tie.Need-add-d Inv-loop μ-loop
 add-d c = search needs
 
--- src/table.rt:27:18
 mul-total : tie.Need-mul-total Inv-loop μ-loop
 mul-total c = search needs
 
--- src/table.rt:27:18
 shared-slice-read-total : tie.Need-shared-slice-read-total Inv-loop μ-loop
 shared-slice-read-total c = search needs
 
--- src/table.rt:27:9
 add-total : tie.Need-add-total Inv-loop μ-loop
 add-total c = omega (arith, upTo-step (c .before .before .before .args .depths .now) (c .before .before .loop .d), upTo-grows (c .before .before .before .args .depths .now) (c .before .before .loop .d + 1) (c .before .before .before .args .c) (omega arith))
 
--- src/table.rt:25:5
 loop-less : tie.Need-loop-less Inv-loop μ-loop
 loop-less c = search needs
 
--- src/table.rt:25:5
 loop-again : tie.Need-loop-again Inv-loop μ-loop
 loop-again c = (omega (arith, upTo-step (c .before .before .before .args .depths .now) (c .before .before .loop .d)), omega arith)
 
--- src/table.rt:19:1
 returns : tie.Need-returns Inv-loop μ-loop
 returns c = c .before .loop .inv .0 ∙ ap (upTo (c .before .before .args .depths .now)) (omega arith)
 

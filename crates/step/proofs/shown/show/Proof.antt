@@ -1,3 +1,4 @@
+-- The loop's invariant: the pages of the entries so far are shown, and 0 past them.
 use Prim.Native.Nat.{_-_, _≤_}
 use native.Mathlib.Omega.{arith}
 use mathlib.Core.Path.{_≡_}
@@ -8,10 +9,6 @@ use Rattle.kept.specs.Entries.{pageOf}
 use Rattle.step.specs.Shown.{placesOf, shown-start, shown-next, shown-end}
 use Rattle.step.proofs.shown.show.Statement.{statement}
 use Rattle.step.proofs.shown.show.Tie as tie
-use Rattle.step.proofs.shown.show.Reads as reads
-use Rattle.step.proofs.shown.show.Lts as lts
-use Rattle.step.proofs.in_use.Reads as in-use-reads
-use Rattle.step.proofs.shown.page.Reads as page-reads
 
 abbrev Inv-loop : tie.InvT-loop
 Inv-loop list n used places₀ i₀ places i = (places ≡ placesOf (map pageOf (take i list))) × (i ≤ used)
@@ -19,47 +16,36 @@ Inv-loop list n used places₀ i₀ places i = (places ≡ placesOf (map pageOf 
 abbrev μ-loop : tie.MeasureT-loop
 μ-loop list n used places₀ i₀ places i = used - i
 
--- src/shown.rt:13:23
 in-use-requires : tie.Need-in-use-requires Inv-loop μ-loop
 in-use-requires c κs = search needs
 
--- src/shown.rt:13:9
 in-use-requires-2 : tie.Need-in-use-requires-2 Inv-loop μ-loop
 in-use-requires-2 c κs = search needs
 
--- src/shown.rt:16:5
 loop-holds : tie.Need-loop-holds Inv-loop μ-loop
 loop-holds c = (shown-start (c .before .before .before .args .list .now), omega arith)
 
--- src/shown.rt:17:31
 mul-page : tie.Need-mul-page Inv-loop μ-loop
 mul-page c = search needs
 
--- src/shown.rt:17:31
 shared-slice-read-page : tie.Need-shared-slice-read-page Inv-loop μ-loop
 shared-slice-read-page c = search needs
 
--- src/shown.rt:17:26
 page-requires : tie.Need-page-requires Inv-loop μ-loop
 page-requires c κs = search needs
 
--- src/shown.rt:17:9
 mul-places : tie.Need-mul-places Inv-loop μ-loop
 mul-places c = search needs
 
--- src/shown.rt:17:9
 array-set-from-places : tie.Need-array-set-from-places Inv-loop μ-loop
 array-set-from-places c = search needs
 
--- src/shown.rt:18:9
 add-i : tie.Need-add-i Inv-loop μ-loop
 add-i c = search needs
 
--- src/shown.rt:16:5
 loop-less : tie.Need-loop-less Inv-loop μ-loop
 loop-less c = search needs
 
--- src/shown.rt:16:5
 loop-again : tie.Need-loop-again Inv-loop μ-loop
 loop-again c = (
   rw (c .page .ensures)
@@ -68,7 +54,6 @@ loop-again c = (
   omega arith,
 )
 
--- src/shown.rt:10:1
 returns : tie.Need-returns Inv-loop μ-loop
 returns c =
     shown-end (c .before .before .before .before .before .args .n) (c .before .before .before .before .before .args .list .now) (c .before .loop .places) (c .before .loop .i)

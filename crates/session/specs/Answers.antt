@@ -1,0 +1,43 @@
+-- What each call of a session answers and leaves behind, as functions of what it was given.
+use Prim.Native.Nat.{ℕ, suc}
+use mathlib.Core.Path.{_≡_}
+use mathlib.Core.List.{List, [], _∷_}
+use lib.ListN.{replicate}
+use Rattle.rules.specs.Limits.{capacities, pages}
+use Rattle.rules.specs.Refusals.{whenAccepted}
+use Rattle.rules.specs.declared.Answer.{Answer}
+use Rattle.rules.specs.declared.Answer.the-variants.{Accepted, Refused}
+use Rattle.session.specs.declared.Session.{Session}
+use Rattle.session.specs.declared.Started.{Started}
+use Rattle.session.specs.declared.Started.the-variants as started
+use Rattle.session.specs.declared.Depth.{Depth}
+use Rattle.session.specs.declared.Depth.the-variants as depths
+use Rattle.session.specs.declared.Referenced.{Referenced}
+use Rattle.session.specs.History.{startAnswer, referenceAnswer, acceptedOf, depthOf}
+use Rattle.session.specs.Memory.{Gives}
+
+-- a fresh session, or the refusal and no session
+abbrev pub startedAs : Answer → Session → Started
+startedAs Accepted s = started.Begun s
+startedAs (Refused r) s = started.Refused r
+
+abbrev pub fresh : ℕ → ℕ → Session
+fresh policy k = record { policy = policy; k = k; length = 0; references = 0 }
+
+pub record Starting (policy k : ℕ) (places depths counts places′ depths′ counts′ : List ℕ) (r : Started) : Type 0 where
+  pub answer : r ≡ startedAs (startAnswer policy k) (fresh policy k)
+  pub places-are : places′ ≡ whenAccepted (startAnswer policy k) (replicate capacities 0) places
+  pub depths-are : depths′ ≡ whenAccepted (startAnswer policy k) (replicate (suc capacities) 0) depths
+  pub counts-are : counts′ ≡ whenAccepted (startAnswer policy k) (replicate pages 0) counts
+
+-- the depth of an accepted reference, or the refusal
+abbrev pub depthAs : Answer → ℕ → Depth
+depthAs Accepted d = depths.Accepted d
+depthAs (Refused r) d = depths.Refused r
+
+-- a reference answers its depth, and gives the session with one call more
+pub record Referring (s : Session) (page : ℕ) (places depths counts places′ depths′ counts′ : List ℕ) (r : Referenced) : Type 0 where
+  pub answer : (policy k : ℕ) (calls : List ℕ) → Gives policy k calls s places depths counts
+      → r .depth ≡ depthAs (referenceAnswer (acceptedOf calls) page) (depthOf policy k calls page)
+  pub next : (policy k : ℕ) (calls : List ℕ) → Gives policy k calls s places depths counts
+      → Gives policy k (page ∷ calls) (r .session) places′ depths′ counts′

@@ -1,0 +1,10 @@
+-- Sessions: the definitions that the promises cite,
+pub mod History
+pub mod Memory
+pub mod Answers
+pub mod Touch
+pub mod StartLaws
+pub mod TouchLaws
+pub mod SessionPolicies
+pub mod ReferLaws
+pub mod SessionLaws

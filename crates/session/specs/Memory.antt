@@ -1,0 +1,58 @@
+-- What a session's value and its three tables hold after a history: all of it, place by place.
+use Prim.Native.Nat.{ℕ, _-_}
+use mathlib.Core.Bool.{Bool, cond}
+use mathlib.Core.Path.{_≡_}
+use mathlib.Core.List.{List, [], _∷_, _++_}
+use lib.Dec.{eqb}
+use lib.ListN.{length, replicate}
+use Rattle.rules.specs.Limits.{capacities, pages, lru}
+use Rattle.rules.specs.declared.Answer.the-variants.{Accepted}
+use Rattle.theory.specs.Policy.{policyOf}
+use Rattle.theory.specs.OnePass.{listAfter}
+use Rattle.kept.specs.Kept.{Ranking, kept}
+use Rattle.kept.specs.KeptPolicies.{unranked, frequency}
+use Rattle.kept.specs.Tally.{tally}
+use Rattle.kept.specs.Frequencies.{frequencies}
+use Rattle.session.specs.declared.Session.{Session}
+use Rattle.session.specs.History.{startAnswer, acceptedOf, listNow}
+
+-- LRU keeps no ranks, LFU the counts
+unfoldable pub rankingOf : ℕ → Ranking
+rankingOf policy = cond (eqb policy lru) unranked frequency
+
+abbrev pub entriesNow : ℕ → ℕ → List ℕ → List ℕ
+entriesNow policy k calls = kept (rankingOf policy) (policyOf policy) k (acceptedOf calls) []
+
+-- the small value
+pub record Value (policy k : ℕ) (calls : List ℕ) (s : Session) : Type 0 where
+  pub started : startAnswer policy k ≡ Accepted
+  pub policy-is : s .policy ≡ policy
+  pub k-is : s .k ≡ k
+  pub length-is : s .length ≡ length (listNow policy k calls)
+  pub references-are : s .references ≡ length (acceptedOf calls)
+
+-- the list's entries, and 0 behind them
+pub record Places (policy k : ℕ) (calls places : List ℕ) : Type 0 where
+  pub places-are : places ≡ entriesNow policy k calls ++ replicate (capacities - length (entriesNow policy k calls)) 0
+
+-- how often each depth came
+pub record Depths (policy k : ℕ) (calls depths : List ℕ) : Type 0 where
+  pub depths-are : depths ≡ tally (policyOf policy) k (acceptedOf calls) []
+
+-- how often each page was referenced; LRU does not count
+pub record Counts (policy : ℕ) (calls counts : List ℕ) : Type 0 where
+  pub counts-are : counts ≡ cond (eqb policy lru) (replicate pages 0) (frequencies (acceptedOf calls))
+
+-- the session and its tables are those that a start with policy and k and these calls give
+pub record Gives (policy k : ℕ) (calls : List ℕ) (s : Session) (places depths counts : List ℕ) : Type 0 where
+  pub value : Value policy k calls s
+  pub list : Places policy k calls places
+  pub tallied : Depths policy k calls depths
+  pub counted : Counts policy calls counts
+
+-- some start and some calls give them: all that a call asks
+pub record Alive (s : Session) (places depths counts : List ℕ) : Type 0 where
+  pub policy : ℕ
+  pub k : ℕ
+  pub calls : List ℕ
+  pub gives : Gives policy k calls s places depths counts
