@@ -1,0 +1,120 @@
+// The frame row (rules W1 to W7; Hoogerwoord 1992, section 1): a fresh row, the five calls, the victim, and the state of one frame. The
+// row stands in memory that the caller lends: the slots, each frame's place in them, each frame's state, the front mark and the number
+// held. The only premise is that the row is one that a fresh row and calls give (`Stands`), and each call leaves one. What the calls
+// mean, and what any sequence of them gives, stands in `row_theory`: a layer above needs its specs/Promise.antt alone.
+mod slots;
+mod table;
+
+use row_theory::Event;
+use row_theory::PerFrame;
+use row_theory::PerSlot;
+use row_theory::Reply;
+use row_theory::Victim;
+use rules::ALL_BUSY;
+use rules::FRAMES;
+use rules::Frame;
+use rules::NOTHING_HELD;
+use rules::Refusal;
+use rules::SLOTS;
+use slots::EMPTY;
+use slots::NOWHERE;
+use slots::shift;
+use table::ABSENT;
+use table::BUSY;
+use table::IDLE;
+use table::recount;
+use table::verdict;
+ghost use mathlib.Core.Path.{_≡_};
+ghost use Rattle.row_theory.specs.Runs.{Reached};
+ghost use Rattle.row_theory.specs.Promise.{memory, Stands, asked, Answered, Started, Kept, Among, Oldest-idle, stateIn};
+
+// One of the five calls: put, touch, start, end or drop of a frame (rules W2 to W6, O6). A refusal leaves the row as it was.
+pub fn call(
+    slots: &mut PerSlot,
+    places: &mut PerFrame,
+    states: &mut PerFrame,
+    front: &mut usize,
+    held: &mut usize,
+    event: Event,
+    frame: Frame,
+) -> Reply
+    requires { ⌜ Stands (memory (now slots) (now places) (now states) (now front) (now held)) ⌝ }
+    ensures { λ r. ⌜ Answered (memory (now (slots .entry)) (now (places .entry)) (now (states .entry)) (now (front .entry)) (now (held .entry))) (asked event (frame .0)) r (memory (now (slots .exit)) (now (places .exit)) (now (states .exit)) (now (front .exit)) (now (held .exit))) ⌝ }
+{
+    let f = frame.0;
+    let n = *held;
+    let then = verdict(states, n, event, f);
+    if BUSY < then {
+        return Reply::Refused(Refusal {
+            number: then,
+            place: 0,
+        });
+    }
+    let examined = shift(slots, places, front, event, f);
+    states[f as usize] = then;
+    *held = recount(event, n);
+    Reply::Done(examined)
+}
+
+// A fresh row in lent memory, whatever stood there (rule W1).
+pub fn fresh(
+    slots: &mut PerSlot,
+    places: &mut PerFrame,
+    states: &mut PerFrame,
+    front: &mut usize,
+    held: &mut usize,
+)
+    ensures { λ r. ⌜ Started (memory (now (slots .exit)) (now (places .exit)) (now (states .exit)) (now (front .exit)) (now (held .exit))) ⌝ }
+{
+    *slots = [EMPTY; SLOTS];
+    *places = [NOWHERE; FRAMES as usize];
+    *states = [ABSENT; FRAMES as usize];
+    *front = SLOTS;
+    *held = 0;
+}
+
+// The frame nearest the old end among those whose mark is 1 (rule W7): 26 if nothing is held, 27 if no held frame has the mark.
+pub fn victim_among(slots: &PerSlot, marks: &PerFrame, front: usize, held: usize) -> Victim
+    requires { ⌜ Kept (now slots) front held ⌝ }
+    ensures { λ r. ⌜ Among (now (slots .entry)) (now (marks .entry)) held r ⌝ }
+{
+    let mut i = SLOTS;
+    while front < i {
+        i -= 1;
+        let frame = slots[i];
+        if frame < FRAMES {
+            if marks[frame as usize] == IDLE {
+                return Victim::Given(Frame(frame));
+            }
+        }
+    }
+    if held == 0 {
+        return Victim::Refused(Refusal {
+            number: NOTHING_HELD,
+            place: 0,
+        });
+    }
+    Victim::Refused(Refusal {
+        number: ALL_BUSY,
+        place: 0,
+    })
+}
+
+// The idle frame nearest the old end (rule W7).
+pub fn victim(slots: &PerSlot, states: &PerFrame, front: usize, held: usize) -> Victim
+    requires { ⌜ Reached (record { slots = now slots; states = now states; front = front; held = held }) ⌝ }
+    ensures { λ r. ⌜ Oldest-idle (record { slots = now (slots .entry); states = now (states .entry); front = front; held = held }) r ⌝ }
+{
+    victim_among(slots, states, front, held)
+}
+
+// The state of one frame, whatever its number: 0 absent, 1 idle, 2 busy.
+pub fn state_of(states: &PerFrame, frame: Frame) -> u8
+    ensures { λ r. ⌜ r ≡ stateIn (now (states .entry)) (frame .0) ⌝ }
+{
+    let f = frame.0;
+    if f < FRAMES {
+        return states[f as usize];
+    }
+    ABSENT
+}

@@ -1,0 +1,93 @@
+// The state table (rules W6, O6, R20 to R25): what a call may do to its frame, and what it makes of the number held.
+use row_theory::Event;
+use row_theory::PerFrame;
+use rules::BAD_FRAME;
+use rules::BUSY_FRAME;
+use rules::FRAMES;
+use rules::HELD;
+use rules::HELD_ALREADY;
+use rules::IDLE_FRAME;
+use rules::NOT_HELD;
+use rules::ROW_FULL;
+ghost use mathlib.Core.Path.{_≡_};
+ghost use mathlib.Core.Bool.{_&&_};
+ghost use Prim.Native.Nat.{ℕ, _<_, _≤_};
+ghost use lib.Dec.{leb};
+ghost use lib.ListN.{getD};
+ghost use Rattle.rules.specs.Limits.{held as heldLimit, slots as slotCount};
+ghost use Rattle.row_theory.specs.States.{busy, entry, isPut};
+ghost use Rattle.row_theory.specs.StateLaws.{bitLater};
+ghost use Rattle.row_theory.specs.Verdict.{verdictOf, heldThen};
+
+pub(crate) const ABSENT: u8 = 0;
+
+pub(crate) const IDLE: u8 = 1;
+
+pub(crate) const BUSY: u8 = 2;
+
+// Rows absent, idle, busy; columns put, touch, start, end, drop. An entry above BUSY is a refusal.
+const NEXT: [[u8; 5]; 3] = [
+    [IDLE, NOT_HELD, NOT_HELD, NOT_HELD, NOT_HELD],
+    [HELD_ALREADY, IDLE, BUSY, IDLE_FRAME, ABSENT],
+    [HELD_ALREADY, BUSY, BUSY_FRAME, IDLE, BUSY_FRAME],
+];
+
+// The table's entry: a next state or a refusal.
+fn next(state: u8, event: Event) -> u8
+    requires { ⌜ state ≤ busy ⌝ }
+    ensures { λ r. ⌜ r ≡ entry state event ⌝ }
+{
+    let row = NEXT[state as usize];
+    match event {
+        Event::Put => row[0],
+        Event::Touch => row[1],
+        Event::Start => row[2],
+        Event::End => row[3],
+        Event::Drop => row[4],
+    }
+}
+
+// Does the limit on frames held stand against the event (rule R25)?
+fn full(event: Event, held: usize) -> bool
+    ensures { λ r. ⌜ r ≡ (isPut event && leb heldLimit held) ⌝ }
+{
+    match event {
+        Event::Put => HELD <= held,
+        Event::Touch => false,
+        Event::Start => false,
+        Event::End => false,
+        Event::Drop => false,
+    }
+}
+
+// The refusal's number, or the state that the call gives its frame (rule O6).
+pub(crate) fn verdict(states: &PerFrame, held: usize, event: Event, frame: u8) -> u8
+    requires { ⌜ ((f : ℕ) → getD (now states) f 0 ≤ busy) ⌝ }
+    ensures { λ r. ⌜ r ≡ verdictOf (now (states .entry)) held event frame ⌝ }
+{
+    if FRAMES <= frame {
+        return BAD_FRAME;
+    }
+    let then = next(states[frame as usize], event);
+    if BUSY < then {
+        return then;
+    }
+    if full(event, held) {
+        return ROW_FULL;
+    }
+    then
+}
+
+// The number held after an accepted call.
+pub(crate) fn recount(event: Event, n: usize) -> usize
+    requires { ⌜ (n ≤ slotCount) × (bitLater event ≡ 0 → 0 < n) ⌝ }
+    ensures { λ r. ⌜ r ≡ heldThen event n ⌝ }
+{
+    match event {
+        Event::Put => n + 1,
+        Event::Touch => n,
+        Event::Start => n,
+        Event::End => n,
+        Event::Drop => n - 1,
+    }
+}

@@ -1,0 +1,42 @@
+-- What the steps of a frame call ask of the slots and the places, and what they leave (docs/RULES.md, W2 to W5).
+use Prim.Native.Nat.{ℕ, _<_, _≤_}
+use mathlib.Core.Path.{_≡_}
+use mathlib.Core.List.{List}
+use lib.ListN.{length}
+use Rattle.rules.specs.Limits.{frames}
+use Rattle.rules.specs.Limits
+use Rattle.row_theory.specs.Slots.{count, placesIn, seated, seatedFront, slotsThen, frontThen, examinedThen}
+use Rattle.row_theory.specs.SeatLaws.{Roomy}
+use Rattle.row_theory.specs.StepLaws.{Ready}
+use Rattle.row_theory.specs.declared.Event.{Event}
+use Rattle.row_theory.specs.declared.Event.the-variants.{Put}
+
+-- slots with no frame twice, and their places
+pub record Indexed (slots places : List ℕ) : Type 0 where
+  pub long : length slots ≡ Limits.slots
+  pub once : (frame : ℕ) → frame < frames → count frame slots ≤ 1
+  pub index : places ≡ placesIn slots
+
+-- a frame that is not in the slots can take one
+pub record Seatable (slots places : List ℕ) (front frame : ℕ) : Type 0 where
+  pub indexed : Indexed slots places
+  pub small : frame < frames
+  pub roomy : Roomy slots front
+  pub out : count frame slots ≡ 0
+
+pub record SeatedNow (slots : List ℕ) (front frame examined : ℕ) (slots′ places′ : List ℕ) (front′ : ℕ) : Type 0 where
+  pub answer : examined ≡ examinedThen Put front
+  pub row : slots′ ≡ seated slots front frame
+  pub index : places′ ≡ placesIn slots′
+  pub mark : front′ ≡ seatedFront slots front
+
+-- an accepted call can be done
+pub record Shiftable (event : Event) (slots places : List ℕ) (front frame : ℕ) : Type 0 where
+  pub indexed : Indexed slots places
+  pub ready : Ready event slots front frame
+
+pub record Shifted (event : Event) (slots : List ℕ) (front frame examined : ℕ) (slots′ places′ : List ℕ) (front′ : ℕ) : Type 0 where
+  pub answer : examined ≡ examinedThen event front
+  pub row : slots′ ≡ slotsThen event slots front frame
+  pub index : places′ ≡ placesIn slots′
+  pub mark : front′ ≡ frontThen event slots front frame

@@ -1,0 +1,35 @@
+-- The frame row: what its calls mean, and what any sequence of calls from a fresh row gives.
+--
+-- What a reader must believe: states, slots, the row, call histories, and what the calls promise.
+pub mod States
+pub mod Slots
+pub mod Row
+pub mod History
+pub mod Runs
+pub mod Promise
+-- What holds over any calls from a fresh row, and that two answers which meet a promise are equal.
+pub mod Theorems
+pub mod PromiseLaws
+-- The laws that these rest on: of lists, states and slots, then of one call, then of all calls.
+pub mod Counting
+pub mod StateLaws
+pub mod SlotLaws
+pub mod SeatLaws
+pub mod RecentLaws
+pub mod StepLaws
+pub mod GoodStates
+pub mod Moments
+pub mod SoundRow
+pub mod Bound
+pub mod Oldest
+-- What the code's own steps ask and leave, and the laws that its proofs cite.
+pub mod Verdict
+pub mod VerdictLaws
+pub mod PlaceLaws
+pub mod Packing
+pub mod PackingLaws
+pub mod Lending
+pub mod LendingLaws
+pub mod ShiftLaws
+pub mod CallLaws
+pub mod Scan

@@ -1,0 +1,69 @@
+-- The frame row (docs/RULES.md, W1 to W7): its whole state, what each call makes of it, and what each call answers.
+use Prim.Native.Nat.{ℕ}
+use mathlib.Core.Bool.{cond}
+use mathlib.Core.List.{List}
+use lib.Dec.{ltb, eqb}
+use lib.ListN.{replicate}
+use Rattle.rules.specs.Limits.{frames}
+use Rattle.rules.specs.Limits
+use Rattle.rules.specs.Refusals.{nothingHeld, allBusy}
+use Rattle.row_theory.specs.States.{Call, freshStates, heldIn, refusalOf, accepts, statesThen}
+use Rattle.row_theory.specs.Slots.{empty, slotsThen, frontThen, examinedThen, oldest}
+use Rattle.row_theory.specs.declared.Reply.{Reply}
+use Rattle.row_theory.specs.declared.Reply.the-variants.{Done, Refused}
+use Rattle.row_theory.specs.declared.Victim.{Victim}
+use Rattle.row_theory.specs.declared.Victim.the-variants as victim
+
+-- the whole state: the slots, the states of all frames, the front mark, and the number of frames held
+pub record Row : Type 0 where
+  pub slots : List ℕ
+  pub states : List ℕ
+  pub front : ℕ
+  pub held : ℕ
+
+-- W1: a fresh row holds nothing, and its front is past the last slot
+unfoldable pub fresh : Row
+fresh = record { slots = replicate Limits.slots empty; states = freshStates; front = Limits.slots; held = 0 }
+
+-- what an accepted call makes of the row
+unfoldable pub moved : Row → Call → Row
+moved row call =
+    record {
+      slots = slotsThen (call .event) (row .slots) (row .front) (call .frame);
+      states = statesThen (row .states) call;
+      front = frontThen (call .event) (row .slots) (row .front) (call .frame);
+      held = heldIn (statesThen (row .states) call);
+    }
+
+-- A3: a refusal leaves the row as it was
+unfoldable pub after : Row → Call → Row
+after row call = cond (accepts (row .states) call) (moved row call) row
+
+-- A1, W5: what the call answers
+unfoldable pub replyOf : Row → Call → Reply
+replyOf row call =
+    cond (accepts (row .states) call) (Done (examinedThen (call .event) (row .front)))
+    (Refused (record { number = refusalOf (row .states) call; place = 0 }))
+
+-- the rules' number of a reply (0: no refusal), its place, and its slots examined
+abbrev pub numberOf : Reply → ℕ
+numberOf (Done n) = 0
+numberOf (Refused r) = r .number
+
+abbrev pub placeOf : Reply → ℕ
+placeOf (Done n) = 0
+placeOf (Refused r) = r .place
+
+abbrev pub examinedOf : Reply → ℕ
+examinedOf (Done n) = n
+examinedOf (Refused r) = 0
+
+-- R26, R27, W7: the victim among the frames with a mark, of these slots with so many frames held
+unfoldable pub victimAmong : List ℕ → List ℕ → ℕ → Victim
+victimAmong marks slots held =
+    cond (ltb (oldest marks slots) frames) (victim.Given (record { 0 = oldest marks slots }))
+    (victim.Refused (record { number = cond (eqb held 0) nothingHeld allBusy; place = 0 }))
+
+-- W7: the idle frames are those that may be given up
+unfoldable pub victimOf : Row → Victim
+victimOf row = victimAmong (row .states) (row .slots) (row .held)

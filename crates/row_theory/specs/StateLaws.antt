@@ -1,0 +1,112 @@
+-- Laws of the state table and of the list of states (definitions: States). The table's rule is proved once, over all of its fifteen entries.
+use Prim.Native.Nat.{ℕ, zero, suc, _+_, _<_, _≤_}
+use native.Mathlib.Nat.{not-suc-le-zero, le-of-suc-le-suc}
+use native.Mathlib.Omega.{arith}
+use mathlib.Core.Path.{_≡_, refl}
+use mathlib.Core.Bool.{Bool, true, false, cond, _&&_, false≢true}
+use mathlib.Core.List.{List, [], _∷_}
+use lib.Dec.{leb, ltb, eqb}
+use lib.ListN.{length, getD, set}
+use borrow.Author.Tests.{eqb-true, leb-false, ltb-false, ltb-true}
+use Rattle.rules.specs.Limits.{frames, held}
+use Rattle.rules.specs.Refusals.{badFrame, rowFull}
+use Rattle.row_theory.specs.States.{Call, absent, idle, busy, entry, stateOf, heldBit, heldIn, ruleOf, isPut, refusalOf, accepts}
+use Rattle.row_theory.specs.Counting.{by-test}
+use Rattle.row_theory.specs.declared.Event.{Event}
+use Rattle.row_theory.specs.declared.Event.the-variants.{Put, Touch, Start, End, Drop}
+
+-- a fact about each of the three states
+pub each-state : (P : ℕ → Type 0) → P absent → P idle → P busy → (state : ℕ) → state ≤ busy → P state
+each-state P a i b zero h = a
+each-state P a i b (suc zero) h = i
+each-state P a i b (suc (suc zero)) h = b
+each-state P a i b (suc (suc (suc n))) h = absurd (not-suc-le-zero (le-of-suc-le-suc (le-of-suc-le-suc h)))
+
+-- W6: the table says what the refusals' own words say, at all of its fifteen entries
+abbrev RuleAt : Event → ℕ → Type 0
+RuleAt event s = entry s event ≡ ruleOf s event
+
+pub table-rule : (event : Event) (state : ℕ) → state ≤ busy → entry state event ≡ ruleOf state event
+unfolding entry ruleOf
+table-rule Put = each-state (RuleAt Put) refl refl refl
+table-rule Touch = each-state (RuleAt Touch) refl refl refl
+table-rule Start = each-state (RuleAt Start) refl refl refl
+table-rule End = each-state (RuleAt End) refl refl refl
+table-rule Drop = each-state (RuleAt Drop) refl refl refl
+
+-- what an accepted event needs of its frame's state, and makes of it: held before, held after
+pub record Effect (before later : ℕ) (state next : ℕ) : Type 0 where
+  pub was : heldBit state ≡ before
+  pub becomes : heldBit next ≡ later
+
+-- the held bits that an accepted event goes from and to
+abbrev pub bitBefore : Event → ℕ
+bitBefore Put = 0
+bitBefore Touch = 1
+bitBefore Start = 1
+bitBefore End = 1
+bitBefore Drop = 1
+
+abbrev pub bitLater : Event → ℕ
+bitLater Put = 1
+bitLater Touch = 1
+bitLater Start = 1
+bitLater End = 1
+bitLater Drop = 0
+
+abbrev EffectAt : Event → ℕ → Type 0
+EffectAt event s = entry s event ≤ busy → Effect (bitBefore event) (bitLater event) s (entry s event)
+
+pub effect : (event : Event) (state : ℕ) → state ≤ busy → entry state event ≤ busy → Effect (bitBefore event) (bitLater event) state (entry state event)
+unfolding entry heldBit
+effect Put = each-state (EffectAt Put) (λ h. record { was = refl; becomes = refl }) (λ h. omega arith) (λ h. omega arith)
+effect Touch = each-state (EffectAt Touch) (λ h. omega arith) (λ h. record { was = refl; becomes = refl }) (λ h. record { was = refl; becomes = refl })
+effect Start = each-state (EffectAt Start) (λ h. omega arith) (λ h. record { was = refl; becomes = refl }) (λ h. omega arith)
+effect End = each-state (EffectAt End) (λ h. omega arith) (λ h. omega arith) (λ h. record { was = refl; becomes = refl })
+effect Drop = each-state (EffectAt Drop) (λ h. omega arith) (λ h. record { was = refl; becomes = refl }) (λ h. omega arith)
+
+-- D1: no event makes a busy frame absent
+pub busy-stays : (event : Event) → entry busy event ≡ absent → ⊥
+unfolding entry
+busy-stays Put e = omega arith
+busy-stays Touch e = omega arith
+busy-stays Start e = omega arith
+busy-stays End e = omega arith
+busy-stays Drop e = omega arith
+
+-- what acceptance says
+pub record Accepted (states : List ℕ) (call : Call) : Type 0 where
+  pub small : call .frame < frames
+  pub allowed : entry (stateOf states (call .frame)) (call .event) ≤ busy
+  pub room : isPut (call .event) ≡ true → heldIn states < held
+
+accepted-chain :
+    (b₁ b₂ b₃ : Bool) (cell : ℕ) → (b₂ ≡ true → busy < cell) → eqb (cond b₁ badFrame (cond b₂ cell (cond b₃ rowFull 0))) 0 ≡ true →
+    (b₁ ≡ false) × (b₂ ≡ false) × (b₃ ≡ false)
+accepted-chain true b₂ b₃ cell h e = absurd (false≢true e)
+accepted-chain false true b₃ cell h e =
+    let z : cell ≡ 0 = eqb-true cell 0 e in let big : busy < cell = h refl in absurd (omega arith)
+accepted-chain false false true cell h e = absurd (false≢true e)
+accepted-chain false false false cell h e = (refl, refl, refl)
+
+pub accepted : (states : List ℕ) (call : Call) → accepts states call ≡ true → Accepted states call
+unfolding accepts refusalOf
+accepted states call e =
+    let cell = entry (stateOf states (call .frame)) (call .event) in
+    let tests = accepted-chain (leb frames (call .frame)) (ltb busy cell) (isPut (call .event) && leb held (heldIn states)) cell (ltb-true busy cell) e in
+    record {
+      small = leb-false frames (call .frame) (tests .0);
+      allowed = ltb-false busy cell (tests .1);
+      room = λ put. leb-false held (heldIn states) (rw put at (tests .2));
+    }
+
+pub heldBit-small : (state : ℕ) → heldBit state ≤ 1
+unfolding heldBit
+heldBit-small state = by-test (eqb state absent) (λ e. rw e (omega arith)) (λ e. rw e (omega arith))
+
+-- storing a state changes the number held by the two held bits
+pub heldIn-set : (states : List ℕ) (i next : ℕ) → i < length states → heldIn (set states i next) + heldBit (getD states i 0) ≡ heldIn states + heldBit next
+unfolding heldIn
+heldIn-set [] i next h = absurd (not-suc-le-zero h)
+heldIn-set (s ∷ states) zero next h = omega arith
+heldIn-set (s ∷ states) (suc i) next h = omega (arith, heldIn-set states i next (le-of-suc-le-suc h))
