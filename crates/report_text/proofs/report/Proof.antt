@@ -1,0 +1,50 @@
+-- `report_text::report`: what the reader's answer tells picks the report that the definition has.
+use Rattle.file_theory.specs.Callers.{accepted-says, accepted-ready, refused-says}
+use Rattle.report_theory.specs.Outcomes.{report-refused, report-accepted}
+use Rattle.report_theory.specs.Buffer.{printed}
+use borrow.Author.Needs.{needs}
+use Rattle.report_text.proofs.report.Statement.{statement}
+use Rattle.report_text.proofs.report.Tie as tie
+
+read-requires : tie.Need-read-requires
+read-requires c κs = search needs
+
+enum-known-reading : tie.Need-enum-known-reading
+enum-known-reading c = search needs
+
+put-refused-requires : tie.Need-put-refused-requires
+put-refused-requires c κs = search needs
+
+enum-known-reading-2 : tie.Need-enum-known-reading-2
+enum-known-reading-2 c = search needs
+
+put-accepted-requires : tie.Need-put-accepted-requires
+put-accepted-requires c κs =
+    let called = c .before .before .before .before .before .before in
+    accepted-ready (called .before .before .before .before .args .file .now) (called .read .ensures) _ (c .before .before .before .before .reading2 .given .1)
+
+returns : tie.Need-returns
+returns c =
+    let called = c .before .before .before .before .before in
+    let file = called .before .before .before .before .args .file .now in
+    let told = refused-says file (called .read .ensures) _ (c .before .before .before .reading .given .1) in
+    rw (report-refused file _ told) (printed (c .put-refused .ensures))
+
+returns-2 : tie.Need-returns-2
+returns-2 c =
+    let called = c .before .before .before .before .before .before .before in
+    let file = called .before .before .before .before .args .file .now in
+    let told = accepted-says file (called .read .ensures) _ (c .before .before .before .before .before .reading2 .given .1) in
+    rw (report-accepted file _ told) (printed (c .put-accepted .ensures))
+
+pub report-spec : {M : Type 1} → statement M
+report-spec =
+    tie.close
+    (tie.spec
+    read-requires
+    enum-known-reading
+    put-refused-requires
+    enum-known-reading-2
+    put-accepted-requires
+    returns
+    returns-2)

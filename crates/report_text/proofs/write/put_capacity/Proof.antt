@@ -1,0 +1,44 @@
+-- `write::put_capacity`: a line of numbers below 2 ^ 32 fits the longest line.
+use native.Mathlib.Omega.{arith}
+use Rattle.report_theory.specs.Pieces.{line-short}
+use borrow.Author.Needs.{needs}
+use Rattle.report_text.proofs.write.put_capacity.Statement.{statement}
+use Rattle.report_text.proofs.write.put_capacity.Tie as tie
+
+hits-at-requires : tie.Need-hits-at-requires
+hits-at-requires c κs = search needs
+
+hits-at-requires-2 : tie.Need-hits-at-requires-2
+hits-at-requires-2 c κs = search needs
+
+hits-at-requires-3 : tie.Need-hits-at-requires-3
+hits-at-requires-3 c κs = search needs
+
+put-line-requires : tie.Need-put-line-requires
+put-line-requires c κs =
+    let a = c .before .before .before .before .before .before .before .before .args in
+    omega (
+      arith,
+      line-short (a .capacity) (c .before .before .before .hits-at .result) (c .before .before .hits-at2 .result) (c .before .hits-at3 .result)
+          (omega arith) (omega (arith, c .before .before .before .hits-at .ok)) (omega (arith, c .before .before .hits-at2 .ok)) (omega (arith, c .before .hits-at3 .ok)),
+    )
+
+same-length : tie.Need-same-length
+same-length c = search needs
+
+returns : tie.Need-returns
+returns c =
+    let called = c .before .before in
+    rw (← called .before .before .hits-at3 .ensures, ← called .before .before .before .hits-at2 .ensures, ← called .before .before .before .before .hits-at .ensures)
+    (called .put-line .ensures)
+
+pub put-capacity-spec : {M : Type 1} → statement M
+put-capacity-spec =
+    tie.close
+    (tie.spec
+    hits-at-requires
+    hits-at-requires-2
+    hits-at-requires-3
+    put-line-requires
+    same-length
+    returns)

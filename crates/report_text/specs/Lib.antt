@@ -1,0 +1,2 @@
+-- What the promises of counting tell the report.
+pub mod Tables

@@ -1,0 +1,119 @@
+// Writing text into a buffer from a place on, and answering the place behind it. Each function asks for just
+// the room that its text takes.
+ghost use mathlib.Core.Path.{_≡_};
+ghost use mathlib.Core.List.{[], _∷_};
+ghost use Prim.Native.Nat.{_+_, _*_, _≤_, _<_};
+ghost use lib.ListN.{length};
+ghost use Rattle.report_theory.specs.Text.{decimal};
+ghost use Rattle.report_theory.specs.Report.{line};
+ghost use Rattle.report_theory.specs.Buffer.{Wrote};
+ghost use Rattle.report_theory.specs.Pieces.{number, longestLine};
+ghost use Rattle.report_theory.specs.Lines.{entry, tableLines};
+
+// No line is longer: four numbers of ten digits, three spaces and a newline.
+pub const LINE: usize = 44;
+
+fn put_byte(out: &mut [u8], at: usize, b: u8) -> usize
+    requires { ⌜ at < length (now out) ⌝ }
+    ensures { λ r. ⌜ Wrote at (b ∷ []) (now (out .entry)) r (now (out .exit)) ⌝ }
+{
+    out[at] = b;
+    at + 1
+}
+
+pub fn put_text(out: &mut [u8], at: usize, text: &[u8]) -> usize
+    requires { ⌜ at + length (now text) ≤ length (now out) ⌝ }
+    ensures { λ r. ⌜ Wrote at (now (text .entry)) (now (out .entry)) r (now (out .exit)) ⌝ }
+{
+    let mut i = 0;
+    while i < text.len() {
+        out[at + i] = text[i];
+        i += 1;
+    }
+    at + i
+}
+
+// Digits by recursion, as in the definition: those of the tenth first.
+fn put_decimal(out: &mut [u8], at: usize, n: u32) -> usize
+    requires { ⌜ at + length (decimal n) ≤ length (now out) ⌝ }
+    ensures { λ r. ⌜ Wrote at (decimal n) (now (out .entry)) r (now (out .exit)) ⌝ }
+{
+    if n < 10 {
+        put_byte(out, at, 48 + n as u8)
+    } else {
+        let next = put_decimal(out, at, n / 10);
+        put_byte(out, next, 48 + (n % 10) as u8)
+    }
+}
+
+// A number and the byte behind it.
+pub fn put_number(out: &mut [u8], at: usize, n: u32, behind: u8) -> usize
+    requires { ⌜ at + length (number n behind) ≤ length (now out) ⌝ }
+    ensures { λ r. ⌜ Wrote at (number n behind) (now (out .entry)) r (now (out .exit)) ⌝ }
+{
+    let next = put_decimal(out, at, n);
+    put_byte(out, next, behind)
+}
+
+fn put_line(out: &mut [u8], at: usize, capacity: u32, lru: u32, lfu: u32, opt: u32) -> usize
+    requires { ⌜ at + length (line capacity lru lfu opt) ≤ length (now out) ⌝ }
+    ensures { λ r. ⌜ Wrote at (line capacity lru lfu opt) (now (out .entry)) r (now (out .exit)) ⌝ }
+{
+    let after_capacity = put_number(out, at, capacity, b' ');
+    let after_lru = put_number(out, after_capacity, lru, b' ');
+    let after_lfu = put_number(out, after_lru, lfu, b' ');
+    put_number(out, after_lfu, opt, b'\n')
+}
+
+// The hits at a capacity, from a hit table (rule A4): total, so that no caller has to carry a bound.
+fn hits_at(table: &[u32], capacity: usize) -> u32
+    ensures { λ r. ⌜ r ≡ entry (now (table .entry)) capacity ⌝ }
+{
+    if capacity < 1 {
+        return 0;
+    }
+    if table.len() < capacity {
+        return 0;
+    }
+    table[capacity - 1]
+}
+
+// The line of one capacity, read off the hit tables of the three policies.
+fn put_capacity(
+    out: &mut [u8],
+    at: usize,
+    capacity: u16,
+    lru: &[u32],
+    lfu: &[u32],
+    opt: &[u32],
+) -> usize
+    requires { ⌜ at + longestLine ≤ length (now out) ⌝ }
+    ensures { λ r. ⌜ Wrote at (line capacity (entry (now (lru .entry)) capacity) (entry (now (lfu .entry)) capacity) (entry (now (opt .entry)) capacity)) (now (out .entry)) r (now (out .exit)) ⌝ }
+{
+    let c = capacity as usize;
+    let in_lru = hits_at(lru, c);
+    let in_lfu = hits_at(lfu, c);
+    let in_opt = hits_at(opt, c);
+    put_line(out, at, capacity as u32, in_lru, in_lfu, in_opt)
+}
+
+// A line for each capacity.
+pub fn put_lines(
+    out: &mut [u8],
+    at: usize,
+    capacities: &[u16],
+    lru: &[u32],
+    lfu: &[u32],
+    opt: &[u32],
+) -> usize
+    requires { ⌜ at + longestLine * length (now capacities) ≤ length (now out) ⌝ }
+    ensures { λ r. ⌜ Wrote at (tableLines (now (lru .entry)) (now (lfu .entry)) (now (opt .entry)) (now (capacities .entry))) (now (out .entry)) r (now (out .exit)) ⌝ }
+{
+    let mut i = 0;
+    let mut place = at;
+    while i < capacities.len() {
+        place = put_capacity(out, place, capacities[i], lru, lfu, opt);
+        i += 1;
+    }
+    place
+}
