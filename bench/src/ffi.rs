@@ -103,4 +103,9 @@ extern "C" {
         references: *mut [u16; 4096],
         counts: *mut [usize; 2],
     ) -> Told;
+
+    pub fn musselrung_report(file: *const u8, length: usize, out: *mut [u8; REPORT]) -> usize;
 }
+
+/// The room that a report is written into.
+pub const REPORT: usize = 64 + 44 * 64;

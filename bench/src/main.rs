@@ -28,7 +28,9 @@ fn main() {
     let ended = match words.first().map(String::as_str) {
         Some("check") => Wanted::from(&words[1..]).and_then(|wanted| wanted.run()),
         Some("time") if words.len() == 1 => {
-            print!("{}", time::table(&time::whole_traces::<of_proved::Proved, of_plain::Plain>()));
+            let mut lines = time::whole_traces::<of_proved::Proved, of_plain::Plain>();
+            lines.extend(time::rows::<of_proved::Row, plain::row::Row>());
+            print!("{}", time::table(&lines));
             Ok(())
         }
         _ => Err(USAGE.to_string()),

@@ -5,10 +5,16 @@ use crate::ffi;
 use crate::model::file::File;
 use crate::model::row::Call;
 use crate::model::Refusal;
-use crate::subject::{Counts, Files, Lists, Picture, Rows};
+use crate::subject::{Counts, Files, Lists, Picture, Reports, Rows};
 
 pub fn subjects() -> Vec<Subject> {
-    vec![trace::subject::<Proved>(), list::subject::<Proved>()]
+    vec![
+        trace::subject::<Proved>(),
+        list::subject::<Proved>(),
+        row::subject::<Row>(),
+        file::subject::<Proved>(),
+        file::reports::<Proved>(),
+    ]
 }
 
 pub struct Proved;
@@ -47,6 +53,15 @@ impl Files for Proved {
         assert!(told.number == 0 || counts == [7; 2], "a refusal wrote counts");
         told.result()?;
         Ok(File { capacities: capacities[..counts[0]].to_vec(), references: references[..counts[1]].to_vec() })
+    }
+}
+
+impl Reports for Proved {
+    fn report(bytes: &[u8]) -> Vec<u8> {
+        let mut out = [0xa5; ffi::REPORT];
+        let length = unsafe { ffi::musselrung_report(bytes.as_ptr(), bytes.len(), &mut out) };
+        assert!(out[length..].iter().all(|&byte| byte == 0xa5), "the report wrote past its end");
+        out[..length].to_vec()
     }
 }
 

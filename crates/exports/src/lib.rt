@@ -4,6 +4,9 @@
 ghost use mathlib.Core.Path.{_≡_};
 ghost use Rattle.exports.specs.Told.{toldOf};
 
+mod frame_row;
+mod report;
+mod trace_file;
 mod whole_trace;
 
 use rules::Answer;

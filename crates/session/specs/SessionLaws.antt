@@ -78,13 +78,16 @@ module _ {policy k : ℕ} {calls : List ℕ} {s : Session} {places depths counts
   running page =
       record {
         room =
-            rw (g .list .places-are, length-append (entriesNow policy k calls) (replicate (capacities - length (entriesNow policy k calls)) 0),
-            length-replicate {A = ℕ} (capacities - length (entriesNow policy k calls)) 0) (omega (arith, few, entries-length, bounds .high));
+            rw (
+              g .list .places-are,
+              length-append (entriesNow policy k calls) (replicate (capacities - length (entriesNow policy k calls)) 0),
+              length-replicate {A = ℕ} (capacities - length (entriesNow policy k calls)) 0,
+            ) (omega (arith, few, entries-length, bounds .high));
         places =
             rw (g .list .places-are, take-at (entriesNow policy k calls) (replicate (capacities - length (entriesNow policy k calls)) 0) (s .length) entries-length)
             (kept-past-only policy (bounds .session) k past [] (page ∷ []));
         inside = omega (arith, few, bounds .high);
-        depths-are = g .tallied .depths-are ∙ tally-past-only (policyOf policy) (past-only policy (bounds .session)) k past [] (page ∷ [])
+        depths-are = g .tallied .depths-are ∙ tally-past-only (policyOf policy) (past-only policy (bounds .session)) k past [] (page ∷ []);
       }
 
   counts-of : counts ≡ countsOf policy past
@@ -113,8 +116,10 @@ module _ {policy k : ℕ} {calls : List ℕ} {s : Session} {places depths counts
     stepped : Stepped (shownOf policy) k (entry (rankingOf policy past (page ∷ [])) page) (entry (rankingOf policy (page ∷ past) []) page)
         (s .length) places places′ step
     stepped =
-        rw (old-is policy (bounds .session) past (page ∷ []) (accepted-below calls) page,
-        new-is policy (bounds .session) past [] (accepted-below calls) page) at (rw counts-of at (touched .stepped))
+        rw (
+          old-is policy (bounds .session) past (page ∷ []) (accepted-below calls) page,
+          new-is policy (bounds .session) past [] (accepted-below calls) page,
+        ) at (rw counts-of at (touched .stepped))
 
     pub refer-depth : step .depth ≡ depth page (listNow policy k calls)
     refer-depth =
@@ -144,14 +149,21 @@ module _ {policy k : ℕ} {calls : List ℕ} {s : Session} {places depths counts
     grown : s .length ≤ length entries
     grown =
         rw (← ap length next-are)
-        (omega (arith, in-use (running page), next-grows (shownOf policy) k (entry (rankingOf policy past (page ∷ [])) page)
-        (entry (rankingOf policy (page ∷ past) []) page) (s .length) places))
+        (omega (
+          arith,
+          in-use (running page),
+          next-grows (shownOf policy) k (entry (rankingOf policy past (page ∷ [])) page)
+              (entry (rankingOf policy (page ∷ past) []) page) (s .length) places,
+        ))
 
     places-next : places′ ≡ entries ++ replicate (capacities - length entries) 0
     places-next =
-        stepped .places ∙ rw (next-are, g .list .places-are,
-        drop-padded (entriesNow policy k calls) capacities (length entries) (omega (arith, grown, entries-length))
-        (omega (arith, runs .inside, length-next)))
+        stepped .places ∙ rw (
+          next-are,
+          g .list .places-are,
+          drop-padded (entriesNow policy k calls) capacities (length entries) (omega (arith, grown, entries-length))
+              (omega (arith, runs .inside, length-next)),
+        )
 
     pub refer-gives : Gives policy k (page ∷ calls) (advanced s step) places′ (set depths (step .depth) (getD depths (step .depth) 0 + 1)) counts′
     unfolding bump
@@ -163,9 +175,9 @@ module _ {policy k : ℕ} {calls : List ℕ} {s : Session} {places depths counts
                 policy-is = g .value .policy-is;
                 k-is = g .value .k-is;
                 length-is = rw now (length-next ∙ kept-length (rankingOf policy) (policyOf policy) k (page ∷ past) []);
-                references-are = rw now (omega (arith, g .value .references-are))
+                references-are = rw now (omega (arith, g .value .references-are));
               };
           list = record { places-are = rw now places-next };
           tallied = record { depths-are = rw now (runs .depths-are) };
-          counted = record { counts-are = rw now (touched .counts-are ∙ rw counts-of (counts-next policy (bounds .session) past page)) }
+          counted = record { counts-are = rw now (touched .counts-are ∙ rw counts-of (counts-next policy (bounds .session) past page)) };
         }

@@ -25,7 +25,7 @@ start-refused e = record { answer = rw e; places-are = rw e; depths-are = rw e; 
 
 pub start-begun : {policy k : ℕ} {places depths counts : List ℕ} → startAnswer policy k ≡ Accepted
     → Starting policy k places depths counts (replicate capacities 0) (replicate (suc capacities) 0) (replicate pages 0)
-      (started.Begun (fresh policy k))
+    (started.Begun (fresh policy k))
 start-begun e = record { answer = rw e; places-are = rw e; depths-are = rw e; counts-are = rw e }
 
 -- an accepted start gives a session: the one with no calls
@@ -40,6 +40,6 @@ start-gives {policy} p e =
       tallied = record { depths-are = p .depths-are ∙ rw e };
       counted =
           record {
-            counts-are = p .counts-are ∙ rw e (by-cases (eqb policy lru) (λ d. rw d) (λ d. rw d))
-          }
+            counts-are = p .counts-are ∙ rw e (by-cases (eqb policy lru) (λ d. rw d) (λ d. rw d));
+          };
     }
