@@ -62,6 +62,7 @@ fn victim_in_numbers(victim: Victim) -> Chosen
     }
 }
 
+// A fresh row, whatever stood in the memory.
 #[no_mangle]
 pub extern "C" fn musselrung_fresh(
     slots: &mut PerSlot,
@@ -75,6 +76,7 @@ pub extern "C" fn musselrung_fresh(
     row::fresh(slots, places, states, front, held)
 }
 
+// The frame becomes idle and the most recent.
 #[no_mangle]
 pub extern "C" fn musselrung_put(
     slots: &mut PerSlot,
@@ -91,6 +93,7 @@ pub extern "C" fn musselrung_put(
     reply_in_numbers(reply)
 }
 
+// The frame becomes the most recent.
 #[no_mangle]
 pub extern "C" fn musselrung_touch(
     slots: &mut PerSlot,
@@ -115,6 +118,7 @@ pub extern "C" fn musselrung_touch(
     reply_in_numbers(reply)
 }
 
+// A transfer starts: the frame becomes busy, and stays where it is.
 #[no_mangle]
 pub extern "C" fn musselrung_start(
     slots: &mut PerSlot,
@@ -139,6 +143,7 @@ pub extern "C" fn musselrung_start(
     reply_in_numbers(reply)
 }
 
+// The transfer ends: the frame becomes idle, and stays where it is.
 #[no_mangle]
 pub extern "C" fn musselrung_end(
     slots: &mut PerSlot,
@@ -155,6 +160,7 @@ pub extern "C" fn musselrung_end(
     reply_in_numbers(reply)
 }
 
+// The frame becomes absent.
 #[no_mangle]
 pub extern "C" fn musselrung_drop(
     slots: &mut PerSlot,
@@ -179,6 +185,7 @@ pub extern "C" fn musselrung_drop(
     reply_in_numbers(reply)
 }
 
+// The idle frame nearest the old end; asking changes nothing.
 #[no_mangle]
 pub extern "C" fn musselrung_victim(
     slots: &PerSlot,
