@@ -16,12 +16,12 @@ use Rattle.rules.specs.declared.Answer.{Answer}
 use Rattle.rules.specs.declared.Answer.the-variants.{Accepted}
 use Rattle.theory.specs.Policy.{policyOf}
 use Rattle.kept.specs.Below.{Below}
-use Rattle.kept.specs.Tally.{tally, upTo, tally-length}
+use Rattle.kept.specs.Tally.{tally}
 use Rattle.count.specs.declared.runs.Run.{Run}
 use Rattle.count.specs.Count.{countAnswer, countTable, withinLimits, Counted}
 use Rattle.count.specs.Checks.{limitsNumber, limits-refused, limits-passed, limits-within}
 use Rattle.count.specs.Runs.{Fit, Ran}
-use Rattle.count.specs.Table.{Summable, Fillable, Filled, sumsFrom, sums-are-hits, sum-small}
+use Rattle.count.specs.Table.{Fillable, Filled, sumsFrom, sums-are-hits, sum-small}
 
 -- all references are pages where none is bad
 pub all-pages : (i : ℕ) (trace : List ℕ) → i + length trace ≤ firstBad i trace → Below pages trace
@@ -69,11 +69,8 @@ module _ (trace : List ℕ) (policy k number : ℕ) (table : List ℕ) (checked 
           pub count-fillable : Fillable (run .depths) k table
           count-fillable =
               rw depths-at (record {
-                summable =
-                    record {
-                      room = omega (arith, tally-length (policyOf policy) k (reverse trace) [], count-fit .high);
-                      small = omega (arith, sum-small policy k (count-fit .high) trace, count-fit .short);
-                    };
+                capacity = count-fit .high;
+                small = omega (arith, sum-small policy k (count-fit .high) trace, count-fit .short);
                 entries = room;
               })
 

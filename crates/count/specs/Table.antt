@@ -1,5 +1,5 @@
 -- The hit table: entry C-1 is the sum of the depths 1 to C (rule A4).
-use Prim.Native.Nat.{ℕ, zero, suc, _+_, _≤_, _<_}
+use Prim.Native.Nat.{ℕ, zero, suc, _+_, _≤_, _<_, min}
 use native.Mathlib.Omega.{arith}
 use native.Mathlib.Nat.{add-suc, suc-add, add-zero}
 use native.Mathlib.Numerals.{add-one, one-add}
@@ -19,35 +19,32 @@ use Rattle.theory.specs.Priority.{Policy}
 use Rattle.theory.specs.OnePass.{depthHits, within, depth, listAfter}
 use Rattle.theory.specs.Order.{policy-order}
 use Rattle.theory.specs.Theorem.{hits-by-depth, hits-and-misses}
-use Rattle.kept.specs.Tally.{tally, upTo, tally-hits, tally-length}
+use Rattle.kept.specs.Tally.{tally, upTo, upTo-grows, tally-hits}
 
 -- the sums at n capacities from c on
 unfoldable pub sumsFrom : List ℕ → ℕ → ℕ → List ℕ
 sumsFrom depths c zero = []
 sumsFrom depths c (suc n) = upTo depths c ∷ sumsFrom depths (suc c) n
 
-pub record Summable (depths : List ℕ) (c : ℕ) : Type 0 where
-  pub room : c < length depths
-  pub small : upTo depths c ≤ references
-
 pub record Fillable (depths : List ℕ) (k : ℕ) (hits : List ℕ) : Type 0 where
-  pub summable : Summable depths k
+  pub capacity : k ≤ capacities
+  pub small : upTo depths k ≤ references
   pub entries : k ≤ length hits
 
 pub record Filled (depths : List ℕ) (k : ℕ) (before after : List ℕ) : Type 0 where
   pub filled : after ≡ sumsFrom depths 1 k ++ drop k before
 
-pub upTo-step : (depths : List ℕ) (d : ℕ) → upTo depths (d + 1) ≡ upTo depths d + getD depths (d + 1) 0
-unfolding upTo
-upTo-step depths d = rw (add-one d)
+-- a sum within the limit is the sum at that capacity, and it fits
+pub sum-at : (depths : List ℕ) (c total : ℕ) → total ≡ upTo depths (min c capacities) → c ≤ capacities → total ≡ upTo depths c
+sum-at depths c total e h = e ∙ ap (upTo depths) (least c h)
+  where
+    least : (c : ℕ) → c ≤ capacities → min c capacities ≡ c
+    least c h = omega arith
 
-pub upTo-grows : (depths : List ℕ) (c d : ℕ) → c ≤ d → upTo depths c ≤ upTo depths d
-unfolding upTo
-upTo-grows depths zero zero h = omega arith
-upTo-grows depths (suc c) zero h = absurd (omega arith)
-upTo-grows depths c (suc d) h =
-    by-cases (eqb c (suc d)) (λ e. rw (eqb-true c (suc d) e) (omega arith))
-    (λ e. omega (arith, upTo-grows depths c d (omega (arith, eqb-false c (suc d) e))))
+pub sum-fits : {depths hits : List ℕ} {k : ℕ} → Fillable depths k hits → (c total : ℕ) → total ≡ upTo depths (min c capacities) → c ≤ k
+    → total ≤ references
+sum-fits {depths} {hits} {k} f c total e h =
+    omega (arith, f .small, sum-at depths c total e (omega (arith, f .capacity)), upTo-grows depths c k h)
 
 pub sums-length : (depths : List ℕ) (c n : ℕ) → length (sumsFrom depths c n) ≡ n
 unfolding sumsFrom

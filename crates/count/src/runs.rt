@@ -10,9 +10,7 @@ use rules::LFU;
 use rules::LRU;
 use rules::PAGES;
 use rules::REFERENCES;
-
-// A place for each depth from 0, which stands for "not in the list".
-pub const DEPTHS: usize = CAPACITIES + 1;
+use step::DEPTHS;
 
 pub struct Run {
     pub list: [u32; CAPACITIES],

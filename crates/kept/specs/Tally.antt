@@ -1,6 +1,7 @@
 -- How often each depth came: a table with a place for each depth from 0, which stands for "not in the list".
 use Prim.Native.Nat.{ℕ, zero, suc, _+_, _≤_, _<_}
 use native.Mathlib.Omega.{arith}
+use native.Mathlib.Numerals.{add-one}
 use mathlib.Core.Bool.{Bool, true, false, cond, _&&_}
 use mathlib.Core.Path.{_≡_, refl, sym, _∙_, ap}
 use mathlib.Core.List.{List, [], _∷_}
@@ -113,3 +114,15 @@ unfolding tally
 tally-most policy k d [] to = omega (arith, zeros-at (suc capacities) d)
 tally-most policy k d (x ∷ past) to =
     omega (arith, bump-most (depth x (listAfter policy k past (x ∷ to))) d (tally policy k past (x ∷ to)), tally-most policy k d past (x ∷ to))
+
+pub upTo-step : (depths : List ℕ) (d : ℕ) → upTo depths (d + 1) ≡ upTo depths d + getD depths (d + 1) 0
+unfolding upTo
+upTo-step depths d = rw (add-one d)
+
+pub upTo-grows : (depths : List ℕ) (c d : ℕ) → c ≤ d → upTo depths c ≤ upTo depths d
+unfolding upTo
+upTo-grows depths zero zero h = omega arith
+upTo-grows depths (suc c) zero h = absurd (omega arith)
+upTo-grows depths c (suc d) h =
+    by-cases (eqb c (suc d)) (λ e. rw (eqb-true c (suc d) e) (omega arith))
+    (λ e. omega (arith, upTo-grows depths c d (omega (arith, eqb-false c (suc d) e))))

@@ -56,3 +56,24 @@ pub record Alive (s : Session) (places depths counts : List ℕ) : Type 0 where
   pub k : ℕ
   pub calls : List ℕ
   pub gives : Gives policy k calls s places depths counts
+
+-- the same of the parts that a read is lent
+pub record Valued (s : Session) : Type 0 where
+  pub policy : ℕ
+  pub k : ℕ
+  pub calls : List ℕ
+  pub value : Value policy k calls s
+
+pub record Listable (s : Session) (places : List ℕ) : Type 0 where
+  pub policy : ℕ
+  pub k : ℕ
+  pub calls : List ℕ
+  pub value : Value policy k calls s
+  pub list : Places policy k calls places
+
+pub record Counting (s : Session) (depths : List ℕ) : Type 0 where
+  pub policy : ℕ
+  pub k : ℕ
+  pub calls : List ℕ
+  pub value : Value policy k calls s
+  pub tallied : Depths policy k calls depths

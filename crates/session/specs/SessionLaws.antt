@@ -74,7 +74,7 @@ module _ {policy k : ℕ} {calls : List ℕ} {s : Session} {places depths counts
   few : s .length ≤ k
   few = rw (g .value .length-is) (at-most (policyOf policy) (keeps policy (bounds .session) .orders) k past [])
 
-  running : (page : ℕ) → Running (policyOf policy) (rankingOf policy) k past (page ∷ []) places (s .length) depths
+  pub running : (page : ℕ) → Running (policyOf policy) (rankingOf policy) k past (page ∷ []) places (s .length) depths
   running page =
       record {
         room =

@@ -2,16 +2,27 @@
 // that the caller lends, so that a reference copies no table; what they hold together is a function of the session's history
 // (specs/Memory.antt), and that some history gives them is all that a call asks.
 ghost use mathlib.Core.Path.{_≡_};
-ghost use Rattle.session.specs.Answers.{Starting};
+ghost use Rattle.session.specs.Answers.{Starting, Referring};
+ghost use Rattle.session.specs.Memory.{Alive};
 
+mod reads;
 mod touch;
 
+pub use reads::hits;
+pub use reads::list;
+pub use reads::misses;
+pub use reads::references;
 use rules::BAD_LIMIT;
+use rules::BAD_PAGE;
 use rules::BAD_POLICY;
 use rules::CAPACITIES;
 use rules::OPT;
 use rules::PAGES;
+use rules::Page;
+use rules::REFERENCES;
 use rules::Refusal;
+use rules::SESSION_FULL;
+use step::DEPTHS;
 
 // The part of a session that is passed by value.
 pub struct Session {
@@ -37,14 +48,17 @@ pub struct Referenced {
     pub session: Session,
 }
 
+// The list that is shown: its length, and its pages in the order of places; places past the length read 0.
+pub struct Listing {
+    pub length: usize,
+    pub places: [Page; CAPACITIES],
+}
+
 // A number that was asked for.
 pub enum Asked {
     Number(usize),
     Refused(Refusal),
 }
-
-// A place for each depth from 0, which stands for "not in the list".
-pub const DEPTHS: usize = CAPACITIES + 1;
 
 // Starts a session under a policy with a list of `k` places, in tables of any content. A refused start gives no session and
 // leaves the tables as they are.
@@ -84,4 +98,49 @@ pub fn start(
         length: 0,
         references: 0,
     })
+}
+
+// One reference. An accepted one answers its depth, or 0 if the page was not in the list; a refused one leaves everything as it is.
+pub fn refer(
+    s: Session,
+    page: Page,
+    places: &mut [u32; CAPACITIES],
+    depths: &mut [u32; DEPTHS],
+    counts: &mut [u16; PAGES as usize],
+) -> Referenced
+    requires { ⌜ Alive s (now places) (now depths) (now counts) ⌝ }
+    ensures { λ r. ⌜ Referring s (page .0) (now (places .entry)) (now (depths .entry)) (now (counts .entry)) (now (places .exit)) (now (depths .exit)) (now (counts .exit)) r ⌝ }
+{
+    if REFERENCES <= s.references {
+        return Referenced {
+            depth: Depth::Refused(Refusal {
+                number: SESSION_FULL,
+                place: 0,
+            }),
+            session: s,
+        };
+    }
+    let p = page.0;
+    if PAGES <= p {
+        return Referenced {
+            depth: Depth::Refused(Refusal {
+                number: BAD_PAGE,
+                place: 0,
+            }),
+            session: s,
+        };
+    }
+    let step = touch::touch(s.policy, p, s.length, s.k, places, counts);
+    let d = step.depth;
+    depths[d] = depths[d] + 1;
+    let next = Session {
+        policy: s.policy,
+        k: s.k,
+        length: step.length,
+        references: s.references + 1,
+    };
+    Referenced {
+        depth: Depth::Accepted(d),
+        session: next,
+    }
 }

@@ -11,8 +11,11 @@ ghost use Rattle.theory.specs.Priority.{higher as «of-higher», lower as «of-
 ghost use Prim.Native.Nat.{min};
 ghost use mathlib.Core.Path.{_≡_};
 
+mod depths;
 mod shown;
 
+pub use depths::DEPTHS;
+pub use depths::sum;
 pub use shown::show;
 
 // What a reference answers: the depth at which the old entry stood, or 0; and the places in use after it.

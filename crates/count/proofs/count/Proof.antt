@@ -31,9 +31,6 @@ returns-3 c = rw (c .refuse3 .ensures) (count-bad (c .before .before .before .be
 run-policy-requires : tie.Need-run-policy-requires
 run-policy-requires c κs = count-fit (c .before .before .before .before .before .before .before .args .trace .now) (c .before .before .before .before .before .before .before .args .policy) (c .before .before .before .before .before .before .before .args .k) (c .before .before .before .before .limits .result) (c .before .before .before .before .before .before .before .args .hits .now) (c .before .before .before .before .limits .ensures) (c .before .before .before .if1 .left) (c .before .before .if2 .left) (c .before .first-bad .result) (c .before .first-bad .ensures) (c .if3 .left)
 
-slice-aggregate-fill : tie.Need-slice-aggregate-fill
-slice-aggregate-fill c = search needs
-
 fill-requires : tie.Need-fill-requires
 fill-requires c κs = count-fillable (c .before .before .before .before .before .before .before .before .before .before .before .args .trace .now) (c .before .before .before .before .before .before .before .before .before .before .before .args .policy) (c .before .before .before .before .before .before .before .before .before .before .before .args .k) (c .before .before .before .before .before .before .before .before .limits .result) (c .before .before .before .before .before .before .before .before .before .before .before .args .hits .now) (c .before .before .before .before .before .before .before .before .limits .ensures) (c .before .before .before .before .before .before .before .if1 .left) (c .before .before .before .before .before .before .if2 .left) (c .before .before .before .before .before .first-bad .result) (c .before .before .before .before .before .first-bad .ensures) (c .before .before .before .before .if3 .left) (c .before .before .before .run-policy .ensures)
 
@@ -56,7 +53,6 @@ count-spec =
     refuse-requires-3
     returns-3
     run-policy-requires
-    slice-aggregate-fill
     fill-requires
     same-length
     returns-4)

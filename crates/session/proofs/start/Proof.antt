@@ -1,23 +1,18 @@
+-- Each return rewrites with the tests that led there.
 use borrow.Author.Tests.{le-leb, lt-leb}
 use Rattle.session.specs.StartLaws.{start-refused, start-begun}
 use Rattle.session.proofs.start.Statement.{statement}
 use Rattle.session.proofs.start.Tie as tie
-use Rattle.session.proofs.start.Reads as reads
-use Rattle.session.proofs.start.Lts as lts
 
--- src/lib.rt:61:9
 returns : tie.Need-returns
 returns c = start-refused (rw (le-leb _ _ (c .if1 .taken)))
 
--- src/lib.rt:67:9
 returns-2 : tie.Need-returns-2
 returns-2 c = start-refused (rw (lt-leb _ _ (c .before .if1 .left), lt-leb _ _ (c .if2 .taken)))
 
--- src/lib.rt:73:9
 returns-3 : tie.Need-returns-3
 returns-3 c = start-refused (rw (lt-leb _ _ (c .before .before .if1 .left), le-leb _ _ (c .before .if2 .left), lt-leb _ _ (c .if3 .taken)))
 
--- src/lib.rt:51:1
 returns-4 : tie.Need-returns-4
 returns-4 c = start-begun (rw (lt-leb _ _ (c .before .before .before .before .before .if1 .left), le-leb _ _ (c .before .before .before .before .if2 .left), le-leb _ _ (c .before .before .before .if3 .left)))
 

@@ -1,11 +1,11 @@
 -- The loop's invariant: the sums of the capacities so far, and the rest of the table as it was.
 use Prim.Native.Nat.{ℕ, _+_, _-_, _≤_}
 use native.Mathlib.Omega.{arith}
-use mathlib.Core.Path.{_≡_, refl, ap, sym, _∙_}
+use mathlib.Core.Path.{_≡_, refl, ap, _∙_}
 use mathlib.Core.List.{_++_}
 use lib.ListN.{length, drop, length-set}
 use borrow.Author.Needs.{needs}
-use Rattle.count.specs.Table.{sumsFrom, upTo-grows, fill-next}
+use Rattle.count.specs.Table.{sumsFrom, sum-at, sum-fits, fill-next}
 use Rattle.count.proofs.table.fill.Statement.{statement}
 use Rattle.count.proofs.table.fill.Tie as tie
 
@@ -23,11 +23,10 @@ add-sum : tie.Need-add-sum Inv-loop μ-loop
 add-sum c = search needs
 
 sum-requires : tie.Need-sum-requires Inv-loop μ-loop
-sum-requires c κs =
-    record {
-      room = omega (arith, c .before .before .before .before .pre .summable .room);
-      small = omega (arith, c .before .before .before .before .pre .summable .small, upTo-grows (c .before .before .before .before .args .depths .now) (c .before .loop .c + 1) (c .before .before .before .before .args .k) (omega arith));
-    }
+sum-requires c κs = search needs
+
+cast-hits : tie.Need-cast-hits Inv-loop μ-loop
+cast-hits c = omega (arith, sum-fits (c .before .before .before .before .pre) (c .before .before .loop .c + 1) (c .sum .result) (c .sum .ensures) (omega arith))
 
 mul-hits : tie.Need-mul-hits Inv-loop μ-loop
 mul-hits c = search needs
@@ -43,7 +42,8 @@ loop-less c = search needs
 
 loop-again : tie.Need-loop-again Inv-loop μ-loop
 loop-again c = (
-  rw (c .sum .ensures) (fill-next (c .before .before .before .before .before .args .depths .now) (c .before .before .loop .hits) (c .before .before .before .before .before .args .hits .now) (c .before .before .loop .c) (omega (arith, c .before .before .before .before .before .pre .entries)) (c .before .before .loop .inv .0)),
+  rw (sum-at (c .before .before .before .before .args .depths .now) (c .before .before .loop .c + 1) (c .sum .result) (c .sum .ensures) (omega (arith, c .before .before .before .before .pre .capacity)))
+      (fill-next (c .before .before .before .before .args .depths .now) (c .before .before .loop .hits) (c .before .before .before .before .args .hits .now) (c .before .before .loop .c) (omega (arith, c .before .before .before .before .pre .entries)) (c .before .before .loop .inv .0)),
   omega arith,
   simp length-set (omega arith),
 )
@@ -53,10 +53,8 @@ same-length c = search needs
 
 returns : tie.Need-returns Inv-loop μ-loop
 returns c =
-    record { filled = rw (ap (λ (n : ℕ). sumsFrom (c .before .before .before .before .args .depths .now) 1 n ++ drop n (c .before .before .before .before .args .hits .now)) (done c)) at (c .before .loop .inv .0) }
-  where
-    done : (c : tie.After-loop Inv-loop μ-loop) → c .before .loop .c ≡ c .before .before .before .before .args .k
-    done c = omega arith
+    let end : c .before .loop .c ≡ c .before .before .before .args .k = omega arith in
+    record { filled = c .before .loop .inv .0 ∙ ap (λ (n : ℕ). sumsFrom (c .before .before .before .args .depths .now) 1 n ++ drop n (c .before .before .before .args .hits .now)) end }
 
 pub fill-spec : {M : Type 1} → statement M
 fill-spec =
@@ -67,6 +65,7 @@ fill-spec =
     loop-holds
     add-sum
     sum-requires
+    cast-hits
     mul-hits
     slice-write-hits
     add-c

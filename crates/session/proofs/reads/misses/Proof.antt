@@ -1,0 +1,23 @@
+-- A law for each return.
+use borrow.Author.Needs.{needs}
+use Rattle.session.specs.ReadLaws.{misses-low, misses-high, misses-done, hits-few}
+use Rattle.session.proofs.reads.misses.Statement.{statement}
+use Rattle.session.proofs.reads.misses.Tie as tie
+
+returns : tie.Need-returns
+returns c = misses-low (c .if1 .taken)
+
+returns-2 : tie.Need-returns-2
+returns-2 c = misses-high (c .before .before .if1 .left) (c .if2 .taken)
+
+sum-requires : tie.Need-sum-requires
+sum-requires c κs = search needs
+
+sub-t8 : tie.Need-sub-t8
+sub-t8 c = hits-few (c .before .before .before .before .if1 .left) (c .before .before .if2 .left) (c .before .sum .result) (c .before .sum .ensures) (c .before .before .before .before .before .pre)
+
+returns-3 : tie.Need-returns-3
+returns-3 c = misses-done (c .before .before .before .before .if1 .left) (c .before .before .if2 .left) (c .before .sum .result) (c .before .sum .ensures)
+
+pub misses-spec : {M : Type 1} → statement M
+misses-spec = tie.close (tie.spec returns returns-2 sum-requires sub-t8 returns-3)

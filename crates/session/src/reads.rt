@@ -1,0 +1,70 @@
+// Reading a session changes nothing: the list, the references accepted, the hits and misses at a capacity.
+ghost use Rattle.session.specs.Reads.{ListRead, ReferencesRead, HitsRead, MissesRead};
+ghost use Rattle.session.specs.Memory.{Valued, Listable, Counting};
+use crate::Asked;
+use crate::Listing;
+use crate::Session;
+use rules::BAD_CAPACITY;
+use rules::CAPACITIES;
+use rules::Refusal;
+use step::DEPTHS;
+
+// The list as it stands.
+pub fn list(s: Session, places: &[u32; CAPACITIES]) -> Listing
+    requires { ⌜ Listable s (now places) ⌝ }
+    ensures { λ r. ⌜ ListRead s (now (places .entry)) r ⌝ }
+{
+    let length = s.length;
+    Listing {
+        length,
+        places: step::show(places, length),
+    }
+}
+
+// How many references were accepted.
+pub fn references(s: Session) -> usize
+    requires { ⌜ Valued s ⌝ }
+    ensures { λ r. ⌜ ReferencesRead s r ⌝ }
+{
+    s.references
+}
+
+// How many of them were hits at capacity `c`.
+pub fn hits(s: Session, depths: &[u32; DEPTHS], c: usize) -> Asked
+    requires { ⌜ Counting s (now depths) ⌝ }
+    ensures { λ r. ⌜ HitsRead s (now (depths .entry)) c r ⌝ }
+{
+    if c < 1 {
+        return Asked::Refused(Refusal {
+            number: BAD_CAPACITY,
+            place: 0,
+        });
+    }
+    if s.k < c {
+        return Asked::Refused(Refusal {
+            number: BAD_CAPACITY,
+            place: 0,
+        });
+    }
+    Asked::Number(step::sum(depths, c))
+}
+
+// How many of them were misses at capacity `c`.
+pub fn misses(s: Session, depths: &[u32; DEPTHS], c: usize) -> Asked
+    requires { ⌜ Counting s (now depths) ⌝ }
+    ensures { λ r. ⌜ MissesRead s (now (depths .entry)) c r ⌝ }
+{
+    if c < 1 {
+        return Asked::Refused(Refusal {
+            number: BAD_CAPACITY,
+            place: 0,
+        });
+    }
+    if s.k < c {
+        return Asked::Refused(Refusal {
+            number: BAD_CAPACITY,
+            place: 0,
+        });
+    }
+    Asked::Number(s.references - step::sum(depths, c))
+}
