@@ -21,6 +21,24 @@ impl Told {
     }
 }
 
+/// A number that was asked for: 0 and the number, or the number of a refusal and its place.
+#[repr(C)]
+#[derive(Clone, Copy)]
+pub struct Found {
+    pub number: u8,
+    pub value: usize,
+}
+
+impl Found {
+    #[inline]
+    pub fn result(self) -> Result<usize, Refusal> {
+        match self.number {
+            0 => Ok(self.value),
+            number => Err(Refusal { number, place: self.value }),
+        }
+    }
+}
+
 /// A row call's answer: 0, or the number of a refusal; the slots examined; the refusal's place.
 #[repr(C)]
 #[derive(Clone, Copy)]
@@ -64,7 +82,7 @@ macro_rules! row_calls {
     };
 }
 
-row_calls!(musselrung_put musselrung_touch musselrung_start musselrung_end musselrung_drop);
+row_calls!(musselrung_row_put musselrung_row_touch musselrung_row_start musselrung_row_end musselrung_row_drop);
 
 extern "C" {
     pub fn musselrung_count(
@@ -86,7 +104,59 @@ extern "C" {
         length: *mut usize,
     ) -> Told;
 
-    pub fn musselrung_fresh(
+    pub fn musselrung_session_start(
+        wanted: u8,
+        limit: usize,
+        policy: *mut u8,
+        k: *mut usize,
+        length: *mut usize,
+        references: *mut usize,
+        places: *mut [u32; 64],
+        depths: *mut [u32; 65],
+        counts: *mut [u16; 1024],
+    ) -> Told;
+
+    pub fn musselrung_session_refer(
+        policy: *mut u8,
+        k: *mut usize,
+        length: *mut usize,
+        references: *mut usize,
+        places: *mut [u32; 64],
+        depths: *mut [u32; 65],
+        counts: *mut [u16; 1024],
+        page: u16,
+    ) -> Found;
+
+    pub fn musselrung_session_list(
+        policy: u8,
+        k: usize,
+        length: usize,
+        references: usize,
+        places: *const [u32; 64],
+        shown: *mut [u16; 64],
+    ) -> usize;
+
+    pub fn musselrung_session_references(policy: u8, k: usize, length: usize, references: usize) -> usize;
+
+    pub fn musselrung_session_hits(
+        policy: u8,
+        k: usize,
+        length: usize,
+        references: usize,
+        depths: *const [u32; 65],
+        capacity: usize,
+    ) -> Found;
+
+    pub fn musselrung_session_misses(
+        policy: u8,
+        k: usize,
+        length: usize,
+        references: usize,
+        depths: *const [u32; 65],
+        capacity: usize,
+    ) -> Found;
+
+    pub fn musselrung_row_fresh(
         slots: *mut [u8; 64],
         places: *mut [u8; 64],
         states: *mut [u8; 64],
@@ -94,7 +164,7 @@ extern "C" {
         held: *mut usize,
     );
 
-    pub fn musselrung_victim(slots: *const [u8; 64], states: *const [u8; 64], front: usize, held: usize) -> Chosen;
+    pub fn musselrung_row_victim(slots: *const [u8; 64], states: *const [u8; 64], front: usize, held: usize) -> Chosen;
 
     pub fn musselrung_read(
         file: *const u8,

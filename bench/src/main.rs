@@ -29,6 +29,7 @@ fn main() {
         Some("check") => Wanted::from(&words[1..]).and_then(|wanted| wanted.run()),
         Some("time") if words.len() == 1 => {
             let mut lines = time::whole_traces::<of_proved::Proved, of_plain::Plain>();
+            lines.extend(time::sessions::<of_proved::Session, plain::session::Session>());
             lines.extend(time::rows::<of_proved::Row, plain::row::Row>());
             print!("{}", time::table(&lines));
             Ok(())

@@ -1,16 +1,17 @@
 //! The proved library as a subject: each call is one exported function.
 
-use crate::check::{file, list, row, trace, Subject};
+use crate::check::{file, list, row, session, trace, Subject};
 use crate::ffi;
 use crate::model::file::File;
 use crate::model::row::Call;
 use crate::model::Refusal;
-use crate::subject::{Counts, Files, Lists, Picture, Reports, Rows};
+use crate::subject::{Counts, Files, Lists, Picture, Reports, Rows, Sessions};
 
 pub fn subjects() -> Vec<Subject> {
     vec![
         trace::subject::<Proved>(),
         list::subject::<Proved>(),
+        session::subject::<Session>(),
         row::subject::<Row>(),
         file::subject::<Proved>(),
         file::reports::<Proved>(),
@@ -65,6 +66,70 @@ impl Reports for Proved {
     }
 }
 
+/// A session in memory of ours; only the library writes it.
+#[derive(Clone, PartialEq, Debug)]
+pub struct Session {
+    policy: u8,
+    k: usize,
+    length: usize,
+    references: usize,
+    places: [u32; 64],
+    depths: [u32; 65],
+    counts: [u16; 1024],
+}
+
+impl Sessions for Session {
+    fn start(wanted: u8, limit: usize) -> Result<Session, Refusal> {
+        let before = Session {
+            policy: 9,
+            k: 9,
+            length: 9,
+            references: 9,
+            places: [9; 64],
+            depths: [9; 65],
+            counts: [9; 1024],
+        };
+        let mut session = before.clone();
+        let Session { policy, k, length, references, places, depths, counts } = &mut session;
+        let told = unsafe {
+            ffi::musselrung_session_start(wanted, limit, policy, k, length, references, places, depths, counts)
+        };
+        assert!(told.number == 0 || session == before, "a refused start wrote");
+        told.result()?;
+        Ok(session)
+    }
+
+    #[inline]
+    fn reference(&mut self, page: u16) -> Result<usize, Refusal> {
+        let Session { policy, k, length, references, places, depths, counts } = self;
+        unsafe { ffi::musselrung_session_refer(policy, k, length, references, places, depths, counts, page) }.result()
+    }
+
+    fn list(&self) -> (usize, Vec<u16>) {
+        let mut shown = [UNTOUCHED; 64];
+        let Session { policy, k, length, references, places, .. } = self;
+        let length =
+            unsafe { ffi::musselrung_session_list(*policy, *k, *length, *references, places, &mut shown) };
+        (length, shown.to_vec())
+    }
+
+    fn accepted(&self) -> usize {
+        unsafe { ffi::musselrung_session_references(self.policy, self.k, self.length, self.references) }
+    }
+
+    fn hits(&self, capacity: usize) -> Result<u32, Refusal> {
+        let Session { policy, k, length, references, depths, .. } = self;
+        let found = unsafe { ffi::musselrung_session_hits(*policy, *k, *length, *references, depths, capacity) };
+        found.result().map(|hits| hits as u32)
+    }
+
+    fn misses(&self, capacity: usize) -> Result<u32, Refusal> {
+        let Session { policy, k, length, references, depths, .. } = self;
+        let found = unsafe { ffi::musselrung_session_misses(*policy, *k, *length, *references, depths, capacity) };
+        found.result().map(|misses| misses as u32)
+    }
+}
+
 /// A frame row in memory of ours; only the library writes it.
 pub struct Row {
     slots: [u8; 64],
@@ -78,18 +143,18 @@ impl Rows for Row {
     fn fresh() -> Row {
         let mut row = Row { slots: [9; 64], places: [9; 64], states: [9; 64], front: 9, held: 9 };
         let Row { slots, places, states, front, held } = &mut row;
-        unsafe { ffi::musselrung_fresh(slots, places, states, front, held) };
+        unsafe { ffi::musselrung_row_fresh(slots, places, states, front, held) };
         row
     }
 
     #[inline]
     fn call(&mut self, call: Call, frame: u8) -> (Result<(), Refusal>, usize) {
         let function: ffi::RowCall = match call {
-            Call::Put => ffi::musselrung_put,
-            Call::Touch => ffi::musselrung_touch,
-            Call::Start => ffi::musselrung_start,
-            Call::End => ffi::musselrung_end,
-            Call::Drop => ffi::musselrung_drop,
+            Call::Put => ffi::musselrung_row_put,
+            Call::Touch => ffi::musselrung_row_touch,
+            Call::Start => ffi::musselrung_row_start,
+            Call::End => ffi::musselrung_row_end,
+            Call::Drop => ffi::musselrung_row_drop,
         };
         let Row { slots, places, states, front, held } = self;
         let ffi::Replied { number, examined, place } = unsafe { function(slots, places, states, front, held, frame) };
@@ -98,7 +163,7 @@ impl Rows for Row {
 
     #[inline]
     fn victim(&self) -> Result<u8, Refusal> {
-        let chosen = unsafe { ffi::musselrung_victim(&self.slots, &self.states, self.front, self.held) };
+        let chosen = unsafe { ffi::musselrung_row_victim(&self.slots, &self.states, self.front, self.held) };
         let ffi::Chosen { number, frame, place } = chosen;
         ffi::Told { number, place }.result().map(|()| frame)
     }

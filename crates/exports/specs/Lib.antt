@@ -6,3 +6,5 @@ pub mod Row
 pub mod RowLaws
 pub mod File
 pub mod FileLaws
+pub mod Session
+pub mod SessionLaws

@@ -64,7 +64,7 @@ fn victim_in_numbers(victim: Victim) -> Chosen
 
 // A fresh row, whatever stood in the memory.
 #[no_mangle]
-pub extern "C" fn musselrung_fresh(
+pub extern "C" fn musselrung_row_fresh(
     slots: &mut PerSlot,
     places: &mut PerFrame,
     states: &mut PerFrame,
@@ -78,7 +78,7 @@ pub extern "C" fn musselrung_fresh(
 
 // The frame becomes idle and the most recent.
 #[no_mangle]
-pub extern "C" fn musselrung_put(
+pub extern "C" fn musselrung_row_put(
     slots: &mut PerSlot,
     places: &mut PerFrame,
     states: &mut PerFrame,
@@ -95,7 +95,7 @@ pub extern "C" fn musselrung_put(
 
 // The frame becomes the most recent.
 #[no_mangle]
-pub extern "C" fn musselrung_touch(
+pub extern "C" fn musselrung_row_touch(
     slots: &mut PerSlot,
     places: &mut PerFrame,
     states: &mut PerFrame,
@@ -120,7 +120,7 @@ pub extern "C" fn musselrung_touch(
 
 // A transfer starts: the frame becomes busy, and stays where it is.
 #[no_mangle]
-pub extern "C" fn musselrung_start(
+pub extern "C" fn musselrung_row_start(
     slots: &mut PerSlot,
     places: &mut PerFrame,
     states: &mut PerFrame,
@@ -145,7 +145,7 @@ pub extern "C" fn musselrung_start(
 
 // The transfer ends: the frame becomes idle, and stays where it is.
 #[no_mangle]
-pub extern "C" fn musselrung_end(
+pub extern "C" fn musselrung_row_end(
     slots: &mut PerSlot,
     places: &mut PerFrame,
     states: &mut PerFrame,
@@ -162,7 +162,7 @@ pub extern "C" fn musselrung_end(
 
 // The frame becomes absent.
 #[no_mangle]
-pub extern "C" fn musselrung_drop(
+pub extern "C" fn musselrung_row_drop(
     slots: &mut PerSlot,
     places: &mut PerFrame,
     states: &mut PerFrame,
@@ -187,7 +187,7 @@ pub extern "C" fn musselrung_drop(
 
 // The idle frame nearest the old end; asking changes nothing.
 #[no_mangle]
-pub extern "C" fn musselrung_victim(
+pub extern "C" fn musselrung_row_victim(
     slots: &PerSlot,
     states: &PerFrame,
     front: usize,

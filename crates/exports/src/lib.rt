@@ -6,6 +6,7 @@ ghost use Rattle.exports.specs.Told.{toldOf};
 
 mod frame_row;
 mod report;
+mod sessions;
 mod trace_file;
 mod whole_trace;
 
