@@ -11,3 +11,4 @@ pub mod ReferLaws
 pub mod SessionLaws
 pub mod ReferAnswers
 pub mod ReadLaws
+pub mod Promises

@@ -1,0 +1,2 @@
+pub mod MarkedRows
+pub mod Marked

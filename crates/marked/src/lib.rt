@@ -1,0 +1,1 @@
+// No code: the marked cases P1 to P12, proved of the definitions as one statement over one table.
