@@ -26,7 +26,7 @@ fn number_at(bytes: &[u8], i: usize) -> u16
 }
 
 // The section that the bytes start with: its count within the limit and its values there.
-pub fn section(bytes: &[u8], limit: usize) -> Section
+pub(crate) fn section(bytes: &[u8], limit: usize) -> Section
     ensures { λ r. ⌜ r ≡ sectionOf limit (now (bytes .entry)) ⌝ }
 {
     if bytes.len() < 2 {
@@ -44,7 +44,7 @@ pub fn section(bytes: &[u8], limit: usize) -> Section
 
 // Is each of the section's n values a capacity, and above the one before it? A value above the one before
 // is above 0, so only the upper limit is tested by itself.
-pub fn rising(bytes: &[u8], n: usize) -> bool
+pub(crate) fn rising(bytes: &[u8], n: usize) -> bool
     requires { ⌜ sectionSize n ≤ length (now bytes) ⌝ }
     ensures { λ r. ⌜ r ≡ risingOf 0 (sectionValues n (now (bytes .entry))) ⌝ }
 {
@@ -65,7 +65,7 @@ pub fn rising(bytes: &[u8], n: usize) -> bool
 }
 
 // The first of the section's n values that is no page number, as a refusal with its index.
-pub fn first_bad_page(bytes: &[u8], n: usize) -> Answer
+pub(crate) fn first_bad_page(bytes: &[u8], n: usize) -> Answer
     requires { ⌜ sectionSize n ≤ length (now bytes) ⌝ }
     ensures { λ r. ⌜ r ≡ firstBadPage 0 (sectionValues n (now (bytes .entry))) Accepted ⌝ }
 {
@@ -80,7 +80,7 @@ pub fn first_bad_page(bytes: &[u8], n: usize) -> Answer
 }
 
 // Puts the section's n values at the front of a table.
-pub fn copy_values(bytes: &[u8], n: usize, table: &mut [u16])
+pub(crate) fn copy_values(bytes: &[u8], n: usize, table: &mut [u16])
     requires { ⌜ (sectionSize n ≤ length (now bytes)) × (n ≤ length (now table)) ⌝ }
     ensures { λ _. ⌜ now (table .exit) ≡ overwritten (sectionValues n (now (bytes .entry))) (now (table .entry)) ⌝ }
 {
@@ -92,7 +92,7 @@ pub fn copy_values(bytes: &[u8], n: usize, table: &mut [u16])
 }
 
 // Do bytes remain behind the section's n values?
-pub fn bytes_left(part: &[u8], n: usize) -> Answer
+pub(crate) fn bytes_left(part: &[u8], n: usize) -> Answer
     requires { ⌜ sectionSize n ≤ length (now part) ⌝ }
     ensures { λ r. ⌜ r ≡ refuseIf (ltb (sectionSize n) (length (now (part .entry)))) bytesLeft Accepted ⌝ }
 {
@@ -104,7 +104,7 @@ pub fn bytes_left(part: &[u8], n: usize) -> Answer
 }
 
 // Of two refusals that apply, the first is given (rule A2).
-pub fn first_refusal(first: Answer, next: Answer) -> Answer
+pub(crate) fn first_refusal(first: Answer, next: Answer) -> Answer
     ensures { λ r. ⌜ r ≡ firstOf first next ⌝ }
 {
     match first {

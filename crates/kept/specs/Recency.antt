@@ -9,6 +9,7 @@ use lib.ListN.{length, take}
 use borrow.Author.Tests.{eqb-true, eqb-false, eq-eqb, ne-eqb, lt-ltb}
 use Rattle.theory.specs.Priority.{Priority, higher, lower}
 use Rattle.theory.specs.Policy.{byMore, smaller, nearness, lru}
+use Rattle.theory.specs.PolicyWords.{nearness-most}
 use Rattle.theory.specs.OnePass.{carry, place, step, listAfter}
 use Rattle.rules.specs.Cases.{by-cases}
 
@@ -30,12 +31,6 @@ sorted-take : (rank : ℕ → ℕ) (k : ℕ) (l : List ℕ) → Sorted rank l �
 sorted-take rank zero l h = tt
 sorted-take rank (suc k) [] h = tt
 sorted-take rank (suc k) (y ∷ l) h = falling-take rank k y l h
-
-pub nearness-most : (p : ℕ) (past : List ℕ) → nearness p past ≤ length past
-unfolding nearness
-nearness-most p [] = omega arith
-nearness-most p (z ∷ past) =
-    by-cases (eqb z p) (λ e. rw e (omega arith)) (λ e. rw e (omega (arith, nearness-most p past)))
 
 nearness-first : (x : ℕ) (past : List ℕ) → nearness x (x ∷ past) ≡ suc (length past)
 unfolding nearness

@@ -21,7 +21,7 @@ fn put_byte(out: &mut [u8], at: usize, b: u8) -> usize
     at + 1
 }
 
-pub fn put_text(out: &mut [u8], at: usize, text: &[u8]) -> usize
+pub(crate) fn put_text(out: &mut [u8], at: usize, text: &[u8]) -> usize
     requires { ⌜ at + length (now text) ≤ length (now out) ⌝ }
     ensures { λ r. ⌜ Wrote at (now (text .entry)) (now (out .entry)) r (now (out .exit)) ⌝ }
 {
@@ -47,7 +47,7 @@ fn put_decimal(out: &mut [u8], at: usize, n: u32) -> usize
 }
 
 // A number and the byte behind it.
-pub fn put_number(out: &mut [u8], at: usize, n: u32, behind: u8) -> usize
+pub(crate) fn put_number(out: &mut [u8], at: usize, n: u32, behind: u8) -> usize
     requires { ⌜ at + length (number n behind) ≤ length (now out) ⌝ }
     ensures { λ r. ⌜ Wrote at (number n behind) (now (out .entry)) r (now (out .exit)) ⌝ }
 {
@@ -98,7 +98,7 @@ fn put_capacity(
 }
 
 // A line for each capacity.
-pub fn put_lines(
+pub(crate) fn put_lines(
     out: &mut [u8],
     at: usize,
     capacities: &[u16],

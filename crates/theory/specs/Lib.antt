@@ -9,6 +9,7 @@ pub mod MarkedCounts
 -- Laws, which antt checks, and the theorems that they lead to:
 pub mod Bags
 pub mod Order
+pub mod PolicyWords
 pub mod Lowest
 pub mod Carry
 pub mod Cut

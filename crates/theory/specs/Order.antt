@@ -23,17 +23,17 @@ smaller-order =
 
 module _ (rank : ℕ → ℕ) (tie : Priority) where
   -- what `byMore` says, as facts about numbers
-  more : (a b : ℕ) → rank b < rank a → byMore rank tie a b ≡ true
+  pub byMore-more : (a b : ℕ) → rank b < rank a → byMore rank tie a b ≡ true
   unfolding byMore
-  more a b h = rw (lt-ltb (rank b) (rank a) h)
+  byMore-more a b h = rw (lt-ltb (rank b) (rank a) h)
 
   less : (a b : ℕ) → rank a < rank b → byMore rank tie a b ≡ false
   unfolding byMore
   less a b h = rw (le-ltb (rank b) (rank a) (omega arith), ne-eqb (rank a) (rank b) (λ e. omega arith))
 
-  equal : (a b : ℕ) → rank a ≡ rank b → byMore rank tie a b ≡ tie a b
+  pub byMore-equal : (a b : ℕ) → rank a ≡ rank b → byMore rank tie a b ≡ tie a b
   unfolding byMore
-  equal a b h = rw (le-ltb (rank b) (rank a) (omega arith), eq-eqb (rank a) (rank b) h)
+  byMore-equal a b h = rw (le-ltb (rank b) (rank a) (omega arith), eq-eqb (rank a) (rank b) h)
 
   -- the three ways in which two ranks can stand
   compare-ranks : {A : Type 0} (a b : ℕ) → (rank b < rank a → A) → (rank a < rank b → A) → (rank a ≡ rank b → A) → A
@@ -50,19 +50,19 @@ module _ (rank : ℕ → ℕ) (tie : Priority) where
       record {
         asymmetric =
             λ a b h. compare-ranks a b (λ m. less b a m) (λ l. clash h (less a b l))
-            (λ e. equal b a (sym e) ∙ o .asymmetric a b (sym (equal a b e) ∙ h));
+            (λ e. byMore-equal b a (sym e) ∙ o .asymmetric a b (sym (byMore-equal a b e) ∙ h));
         transitive =
-            λ a b c h k. compare-ranks a c (λ m. more a c m) (λ l. absurd (omega (arith, at-least a b h, at-least b c k)))
+            λ a b c h k. compare-ranks a c (λ m. byMore-more a c m) (λ l. absurd (omega (arith, at-least a b h, at-least b c k)))
             (λ e. tied a b c e (omega (arith, at-least a b h, at-least b c k)) h k o);
         total =
-            λ a b h n. compare-ranks a b (λ m. clash (more a b m) h) (λ l. more b a l)
-            (λ e. equal b a (sym e) ∙ o .total a b (sym (equal a b e) ∙ h) n);
+            λ a b h n. compare-ranks a b (λ m. clash (byMore-more a b m) h) (λ l. byMore-more b a l)
+            (λ e. byMore-equal b a (sym e) ∙ o .total a b (sym (byMore-equal a b e) ∙ h) n);
       }
     where
       tied : (a b c : ℕ) → rank a ≡ rank c → rank a ≡ rank b → byMore rank tie a b ≡ true → byMore rank tie b c ≡ true
           → Order tie → byMore rank tie a c ≡ true
       tied a b c e d h k t =
-          equal a c e ∙ t .transitive a b c (sym (equal a b d) ∙ h) (sym (equal b c (sym d ∙ e)) ∙ k)
+          byMore-equal a c e ∙ t .transitive a b c (sym (byMore-equal a b d) ∙ h) (sym (byMore-equal b c (sym d ∙ e)) ∙ k)
 
 pub lru-order : (past to : List ℕ) → Order (lru past to)
 unfolding lru
