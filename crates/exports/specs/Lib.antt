@@ -8,3 +8,4 @@ pub mod File
 pub mod FileLaws
 pub mod Session
 pub mod SessionLaws
+pub mod Once
