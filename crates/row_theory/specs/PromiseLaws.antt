@@ -47,7 +47,7 @@ answered {m} {call} {reply} {m′} reached answer next index =
     }
 
 -- the row and the index of its slots are all of the memory
-same-memory : {m₁ m₂ : Memory} → rowIn m₁ ≡ rowIn m₂ → Stands m₁ → Stands m₂ → m₁ ≡ m₂
+pub same-memory : {m₁ m₂ : Memory} → rowIn m₁ ≡ rowIn m₂ → Stands m₁ → Stands m₂ → m₁ ≡ m₂
 same-memory {m₁} {m₂} same one two =
     let places : m₁ .places ≡ m₂ .places = one .index ∙ ap (λ (r : Row). placesIn (r .slots)) same ∙ sym (two .index) in
     λ i. record { slots = same i .slots; places = places i; states = same i .states; front = same i .front; held = same i .held }

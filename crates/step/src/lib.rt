@@ -1,6 +1,10 @@
 // One reference to a list that is kept as entries, in memory that the caller lends: the list step of every counting crate.
 // `shift` is the step under LRU, where what is carried always stays at the next place; `place` is the step under LFU and OPT,
 // where the larger of two entries stays. Both take any memory, any number of places in use, any limit and any entries.
+mod shifting;
+
+use shifting::find;
+use shifting::shift_down;
 ghost use Rattle.step.specs.Stepped.{Carrying, Placed, Settled, Stepped};
 ghost use Rattle.kept.specs.Entries.{entry as «entry-of», larger, always};
 ghost use Rattle.theory.specs.Priority.{higher as «of-higher», lower as «of-lower»};
@@ -58,24 +62,21 @@ fn sinks(carried: u32, here: u32) -> u32
 fn carry_all(list: &mut [u32], old: u32, first: u32) -> Carried
     ensures { λ r. ⌜ Carrying always old first (now (list .entry)) (now (list .exit)) r ⌝ }
 {
-    let mut carried = first;
-    let mut i = 0;
-    while i < list.len() {
-        let here = list[i];
-        list[i] = carried;
-        if here == old {
-            return Carried {
-                depth: i + 1,
-                last: 0,
-            };
-        }
-        carried = here;
-        i += 1;
+    let depth = find(list, old);
+    if 0 < depth {
+        shift_down(list, depth - 1, first);
+        return Carried { depth, last: 0 };
     }
-    Carried {
-        depth: 0,
-        last: carried,
+    let n = list.len();
+    if n == 0 {
+        return Carried {
+            depth: 0,
+            last: first,
+        };
     }
+    let last = list[n - 1];
+    shift_down(list, n - 1, first);
+    Carried { depth: 0, last }
 }
 
 // Carries `first` down the list, to the old entry's place or to the end: at each place the larger entry stays.

@@ -1,76 +1,77 @@
--- Carrying under LRU: the loop's invariant is a walk in which the carried entry always stays.
-use Prim.Native.Nat.{_+_, _-_}
+-- Carrying under LRU: the old entry's place is found, and what stands before it moves one place down.
+use mathlib.Core.Path.{_≡_}
 use native.Mathlib.Omega.{arith}
-use mathlib.Core.Path.{refl}
-use lib.ListN.{length, length-set}
+use Rattle.step.proofs.CarryAll.{found-inside, carried-found, carried-missing, carried-empty}
+use Rattle.theory.specs.OnePass.{depth}
 use borrow.Author.Needs.{needs}
-use Rattle.kept.specs.Entries.{always}
-use Rattle.step.proofs.Walk.{Walk, walk-start, walk-next, walk-found, walk-end}
 use Rattle.step.proofs.carry_all.Statement.{statement}
 use Rattle.step.proofs.carry_all.Tie as tie
 
-abbrev Inv-loop : tie.InvT-loop
-Inv-loop list₀ old first carried₀ i₀ list carried i = Walk always old first list₀ carried i list
+find-requires : tie.Need-find-requires
+find-requires c κs = search needs
 
-abbrev μ-loop : tie.MeasureT-loop
-μ-loop list₀ old first carried₀ i₀ list carried i = length list₀ - i
+sub-shift-down : tie.Need-sub-shift-down
+sub-shift-down c = search needs
 
-loop-holds : tie.Need-loop-holds Inv-loop μ-loop
-loop-holds c = walk-start
+shift-down-requires : tie.Need-shift-down-requires
+shift-down-requires c κs =
+    let start = c .before .before .before .before .before in
+    found-inside (start .args .old) (start .args .list .now) (c .before .before .find .ensures) (c .before .if1 .taken)
 
-mul-here : tie.Need-mul-here Inv-loop μ-loop
-mul-here c = search needs
-
-slice-read-here : tie.Need-slice-read-here Inv-loop μ-loop
-slice-read-here c = search needs
-
-mul-list : tie.Need-mul-list Inv-loop μ-loop
-mul-list c = search needs
-
-slice-write-list : tie.Need-slice-write-list Inv-loop μ-loop
-slice-write-list c = search needs
-
-add-t12 : tie.Need-add-t12 Inv-loop μ-loop
-add-t12 c = search needs
-
-same-length : tie.Need-same-length Inv-loop μ-loop
+same-length : tie.Need-same-length
 same-length c = search needs
 
-returns : tie.Need-returns Inv-loop μ-loop
-returns c = walk-found (c .before .before .before .loop .inv) (omega arith) (record { depth = c .before .before .before .loop .i + 1; last = 0 }) (c .if1 .taken) refl refl
+returns : tie.Need-returns
+returns c =
+    let at-if = c .before .before .before .before in
+    carried-found (c .before .before .before .before .before .before .before .before .args .old) (at-if .before .find .ensures) (at-if .if1 .taken) (c .before .before .shift-down .ensures)
 
-add-i : tie.Need-add-i Inv-loop μ-loop
-add-i c = search needs
-
-loop-less : tie.Need-loop-less Inv-loop μ-loop
-loop-less c = search needs
-
-loop-again : tie.Need-loop-again Inv-loop μ-loop
-unfolding always
-loop-again c = walk-next (c .before .before .before .loop .inv) (omega arith) (c .if1 .left)
-
-same-length-2 : tie.Need-same-length-2 Inv-loop μ-loop
+same-length-2 : tie.Need-same-length-2
 same-length-2 c = search needs
 
-returns-2 : tie.Need-returns-2 Inv-loop μ-loop
-returns-2 c = walk-end (c .before .loop .inv) (record { depth = 0; last = c .before .loop .carried }) (omega arith) refl refl
+returns-2 : tie.Need-returns-2
+returns-2 c = carried-empty (c .before .before .before .before .before .args .old) (c .before .before .before .before .before .args .list .now) (c .if2 .taken)
+
+sub-last : tie.Need-sub-last
+sub-last c = search needs
+
+mul-last : tie.Need-mul-last
+mul-last c = search needs
+
+slice-read-last : tie.Need-slice-read-last
+slice-read-last c = search needs
+
+sub-shift-down-2 : tie.Need-sub-shift-down-2
+sub-shift-down-2 c = search needs
+
+shift-down-requires-2 : tie.Need-shift-down-requires-2
+shift-down-requires-2 c κs = search needs
+
+same-length-3 : tie.Need-same-length-3
+same-length-3 c = search needs
+
+returns-3 : tie.Need-returns-3
+returns-3 c =
+    let at-if = c .before .before .before .before .before .before in
+    let start = at-if .before .before .before .before in
+    let nowhere : 0 ≡ depth (start .args .old) (start .args .list .now) = omega (arith, at-if .before .find .ensures, at-if .if1 .left) in
+    carried-missing (start .args .old) nowhere (omega (arith, c .before .before .before .before .before .if2 .left)) (c .before .before .shift-down2 .ensures)
 
 pub carry-all-spec : {M : Type 1} → statement M
 carry-all-spec =
     tie.close
     (tie.spec
-    Inv-loop
-    μ-loop
-    loop-holds
-    mul-here
-    slice-read-here
-    mul-list
-    slice-write-list
-    add-t12
+    find-requires
+    sub-shift-down
+    shift-down-requires
     same-length
     returns
-    add-i
-    loop-less
-    loop-again
     same-length-2
-    returns-2)
+    returns-2
+    sub-last
+    mul-last
+    slice-read-last
+    sub-shift-down-2
+    shift-down-requires-2
+    same-length-3
+    returns-3)

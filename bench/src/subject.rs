@@ -1,0 +1,44 @@
+//! What the harness asks of a library, subject by subject. The proved library answers through `ffi`, the plain Rust
+//! versions directly, and both are held to the model.
+
+use crate::model::file::File;
+use crate::model::row::Call;
+use crate::model::Refusal;
+
+pub trait Counts {
+    /// Writes to the table as the library does.
+    fn count(trace: &[u16], policy: u8, k: usize, table: &mut [u32]) -> Result<(), Refusal>;
+}
+
+pub trait Lists {
+    /// The length, and all places that the library shows.
+    fn list(trace: &[u16], policy: u8, k: usize, t: usize) -> Result<(usize, Vec<u16>), Refusal>;
+}
+
+pub trait Sessions: Sized {
+    fn start(policy: u8, k: usize) -> Result<Self, Refusal>;
+    fn reference(&mut self, page: u16) -> Result<usize, Refusal>;
+    fn list(&self) -> (usize, Vec<u16>);
+    fn accepted(&self) -> usize;
+    fn hits(&self, capacity: usize) -> Result<u32, Refusal>;
+    fn misses(&self, capacity: usize) -> Result<u32, Refusal>;
+}
+
+/// Slots (64 for an empty one), the front, and the state of each frame (0 absent, 1 idle, 2 busy).
+pub type Picture = ([u8; 64], usize, [u8; 64]);
+
+pub trait Rows {
+    fn fresh() -> Self;
+    /// The refusal if any, and the slots examined.
+    fn call(&mut self, call: Call, frame: u8) -> (Result<(), Refusal>, usize);
+    fn victim(&self) -> Result<u8, Refusal>;
+    fn picture(&self) -> Picture;
+}
+
+pub trait Files {
+    fn read(bytes: &[u8]) -> Result<File, Refusal>;
+}
+
+pub trait Reports {
+    fn report(bytes: &[u8]) -> Vec<u8>;
+}

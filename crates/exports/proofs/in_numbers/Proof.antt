@@ -1,0 +1,19 @@
+-- `exports::in_numbers`: the arm that is taken knows the answer, and its number and place compute.
+use borrow.Author.Needs.{needs}
+use Rattle.exports.proofs.in_numbers.Statement.{statement}
+use Rattle.exports.proofs.in_numbers.Tie as tie
+
+enum-told : tie.Need-enum-told
+enum-told c = search needs
+
+enum-known-answer : tie.Need-enum-known-answer
+enum-known-answer c = search needs
+
+returns : tie.Need-returns
+returns c = rw (c .enum-told .given .1)
+
+returns-2 : tie.Need-returns-2
+returns-2 c = rw (c .before .answer .given .1)
+
+pub in-numbers-spec : {M : Type 1} → statement M
+in-numbers-spec = tie.close (tie.spec enum-told enum-known-answer returns returns-2)

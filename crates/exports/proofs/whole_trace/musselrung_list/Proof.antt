@@ -1,0 +1,34 @@
+-- `exports::whole_trace::musselrung_list`: what `count::list` promises, told in numbers.
+use borrow.Author.Needs.{needs}
+use Rattle.exports.specs.TraceLaws.{list-refused, list-told}
+use Rattle.exports.proofs.whole_trace.musselrung_list.Statement.{statement}
+use Rattle.exports.proofs.whole_trace.musselrung_list.Tie as tie
+
+list-requires : tie.Need-list-requires
+list-requires c κs = search needs
+
+enum-known-answer : tie.Need-enum-known-answer
+enum-known-answer c = search needs
+
+enum-told : tie.Need-enum-told
+enum-told c = search needs
+
+page-numbers-requires : tie.Need-page-numbers-requires
+page-numbers-requires c κs = search needs
+
+returns : tie.Need-returns
+returns c =
+    let listed = c .before .before .before .before in
+    let start = listed .before .before in
+    let known = c .before .answer .given in
+    list-refused (listed .list .ensures) _ _ (known .0 .0) (known .1)
+
+returns-2 : tie.Need-returns-2
+returns-2 c =
+    let listed = c .before .before .before .before in
+    list-told (listed .list .ensures) _ _ (c .before .enum-told .given .1) (c .page-numbers .ensures)
+
+pub musselrung-list-spec : {M : Type 1} → statement M
+musselrung-list-spec =
+    tie.close
+    (tie.spec list-requires enum-known-answer enum-told page-numbers-requires returns returns-2)

@@ -1,0 +1,22 @@
+-- The list that crate count shows, its answer looked at by its cases, gives what the exported call promises.
+use Prim.Native.Nat.{ℕ}
+use mathlib.Core.Path.{_≡_, sym, _∙_}
+use mathlib.Core.List.{List, map}
+use Rattle.rules.specs.declared.Refusal.{Refusal}
+use Rattle.rules.specs.declared.Answer.the-variants.{Accepted, Refused}
+use Rattle.count.specs.declared.Listed.{Listed}
+use Rattle.count.specs.Listing.{Showing}
+use Rattle.exports.specs.Trace.{numberOf, ListTold}
+
+module _ {trace : List ℕ} {policy k t : ℕ} {listed : Listed} (showing : Showing trace policy k t listed) (before : List ℕ) (length : ℕ) where
+  pub list-refused : (r : Refusal) → listed .answer ≡ Refused r
+      → ListTold trace policy k t before length before length (record { number = r .number; place = r .place })
+  list-refused r e =
+      let said : _ ≡ Refused r = sym (showing .answer-is) ∙ e in
+      record { answer = rw said; places = rw said; length-is = rw said }
+
+  pub list-told : {after : List ℕ} → listed .answer ≡ Accepted → after ≡ map numberOf (listed .places)
+      → ListTold trace policy k t before length after (listed .length) (record { number = 0; place = 0 })
+  list-told e n =
+      let said : _ ≡ Accepted = sym (showing .answer-is) ∙ e in
+      record { answer = rw said; places = rw said (n ∙ rw (showing .places-are)); length-is = rw said (showing .length-is) }
