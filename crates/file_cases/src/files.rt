@@ -1,0 +1,107 @@
+// One trace file: what the library reads, and what stands in the lent tables then, beside the plain reader.
+use comparing::Tally;
+use comparing::one_case;
+use comparing::same;
+use comparing::same_number;
+use file_theory::Reading;
+use rules::CAPACITIES;
+use rules::REFERENCES;
+use simulator::Contents;
+
+// What stands in the lent tables before: no page and no capacity.
+const OLD: u16 = 60000;
+
+fn reading_number(reading: Reading) -> u8 {
+    match reading {
+        Reading::Accepted(_) => 0,
+        Reading::Refused(r) => r.number,
+    }
+}
+
+fn reading_place(reading: Reading) -> usize {
+    match reading {
+        Reading::Accepted(_) => 0,
+        Reading::Refused(r) => r.place,
+    }
+}
+
+fn capacity_count(reading: Reading) -> usize {
+    match reading {
+        Reading::Accepted(counts) => counts.capacities,
+        Reading::Refused(_) => 0,
+    }
+}
+
+fn reference_count(reading: Reading) -> usize {
+    match reading {
+        Reading::Accepted(counts) => counts.references,
+        Reading::Refused(_) => 0,
+    }
+}
+
+fn wide(x: u16) -> usize {
+    x as usize
+}
+
+fn wanted(file: &[u8], start: usize, n: usize, i: usize) -> usize {
+    if i < n {
+        return simulator::value_at(file, start, i);
+    }
+    wide(OLD)
+}
+
+// The index of the first entry that is not the section's value, or past its n values not the old one; the table's length if all are.
+fn first_wrong(table: &[u16], file: &[u8], start: usize, n: usize) -> usize {
+    let mut i = 0;
+    while i < table.len() {
+        if wide(table[i]) != wanted(file, start, n, i) {
+            return i;
+        }
+        i += 1;
+    }
+    i
+}
+
+fn compare_capacities(
+    table: &[u16; CAPACITIES],
+    file: &[u8],
+    contents: Contents,
+    tally: &mut Tally,
+) {
+    let all = &table[..];
+    same(
+        tally,
+        first_wrong(all, file, 0, contents.capacities),
+        all.len(),
+    );
+}
+
+fn compare_references(
+    table: &[u16; REFERENCES],
+    file: &[u8],
+    contents: Contents,
+    tally: &mut Tally,
+) {
+    let all = &table[..];
+    let start = 2 + 2 * (contents.capacities % 65);
+    same(
+        tally,
+        first_wrong(all, file, start, contents.references),
+        all.len(),
+    );
+}
+
+// One file: the answer, and both lent tables whole.
+pub(crate) fn compare_file(file: &[u8], tally: &mut Tally) {
+    one_case(tally);
+    let mut capacities = [OLD; CAPACITIES];
+    let mut references = [OLD; REFERENCES];
+    let reading = file::read(file, &mut capacities, &mut references);
+    let contents = simulator::read_plain(file);
+    same_number(tally, reading_number(reading), contents.number);
+    same(tally, reading_place(reading), contents.place);
+    same(tally, capacity_count(reading), contents.capacities);
+    same(tally, reference_count(reading), contents.references);
+    compare_capacities(&capacities, file, contents, tally);
+    compare_references(&references, file, contents, tally);
+}
