@@ -3,6 +3,7 @@ use comparing::Tally;
 use comparing::one_case;
 use comparing::same;
 use comparing::same_number;
+use file_theory::Part;
 use file_theory::Reading;
 use rules::CAPACITIES;
 use rules::REFERENCES;
@@ -76,19 +77,48 @@ fn compare_capacities(
     );
 }
 
-fn compare_references(
+// The table of references, beside the section whose count stands at byte `start`.
+fn compare_values(
     table: &[u16; REFERENCES],
     file: &[u8],
-    contents: Contents,
+    start: usize,
+    n: usize,
     tally: &mut Tally,
 ) {
     let all = &table[..];
-    let start = 2 + 2 * (contents.capacities % 65);
-    same(
-        tally,
-        first_wrong(all, file, start, contents.references),
-        all.len(),
-    );
+    same(tally, first_wrong(all, file, start, n), all.len());
+}
+
+fn part_number(part: Part) -> u8 {
+    match part {
+        Part::References(_) => 0,
+        Part::Refused(r) => r.number,
+    }
+}
+
+// The number of references, or the refusal's place.
+fn part_value(part: Part) -> usize {
+    match part {
+        Part::References(n) => n,
+        Part::Refused(r) => r.place,
+    }
+}
+
+fn value_of(contents: Contents) -> usize {
+    if contents.number == 0 {
+        return contents.references;
+    }
+    contents.place
+}
+
+// The same bytes as the part of a file that starts at its reference section.
+fn compare_part(part: &[u8], tally: &mut Tally) {
+    let mut references = [OLD; REFERENCES];
+    let reading = file::read_references(part, &mut references);
+    let contents = simulator::read_part(part);
+    same_number(tally, part_number(reading), contents.number);
+    same(tally, part_value(reading), value_of(contents));
+    compare_values(&references, part, 0, contents.references, tally);
 }
 
 // One file: the answer, and both lent tables whole.
@@ -103,5 +133,12 @@ pub(crate) fn compare_file(file: &[u8], tally: &mut Tally) {
     same(tally, capacity_count(reading), contents.capacities);
     same(tally, reference_count(reading), contents.references);
     compare_capacities(&capacities, file, contents, tally);
-    compare_references(&references, file, contents, tally);
+    compare_values(
+        &references,
+        file,
+        2 + 2 * (contents.capacities % 65),
+        contents.references,
+        tally,
+    );
+    compare_part(file, tally);
 }

@@ -249,10 +249,11 @@ fn compare_row(calls: usize, spread: u16, first_seed: u64, tally: &mut Tally) {
 
 pub fn compare_rows(tally: &mut Tally) {
     compare_row(120, 0, 1, tally);
-    compare_row(700, 1, 61, tally);
-    compare_row(700, 3, 62, tally);
-    compare_row(1000, 12, 63, tally);
-    compare_row(1000, 40, 64, tally);
-    compare_row(1000, 66, 65, tally);
-    compare_row(1000, 100, 66, tally);
+    compare_row(1000, 1, 61, tally);
+    compare_row(1000, 3, 62, tally);
+    compare_row(3000, 12, 63, tally);
+    compare_row(3000, 33, 64, tally);
+    compare_row(3000, 40, 65, tally);
+    compare_row(3000, 66, 66, tally);
+    compare_row(3000, 100, 67, tally);
 }

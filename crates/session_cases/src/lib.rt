@@ -359,6 +359,39 @@ fn compare_run(
     follow(s, places, depths, counts, past, n, seed, tally);
 }
 
+// What stands in the lent tables before a start.
+const OLD: u16 = 7;
+
+// The index of the first entry that is not the old one, or the table's length.
+fn first_new(table: &[u32]) -> usize {
+    let mut i = 0;
+    while i < table.len() {
+        if table[i] != OLD as u32 {
+            return i;
+        }
+        i += 1;
+    }
+    i
+}
+
+fn first_new_count(table: &[u16]) -> usize {
+    let mut i = 0;
+    while i < table.len() {
+        if table[i] != OLD {
+            return i;
+        }
+        i += 1;
+    }
+    i
+}
+
+// A refused start leaves the tables as they were.
+fn compare_untouched(places: &Places, depths: &Depths, counts: &Counts, tally: &mut Tally) {
+    same(tally, first_new(&places[..]), CAPACITIES);
+    same(tally, first_new(&depths[..]), CAPACITIES + 1);
+    same(tally, first_new_count(&counts[..]), PAGES as usize);
+}
+
 // One session under a policy, with a list of `k` places.
 fn compare_session(
     policy: u8,
@@ -369,9 +402,9 @@ fn compare_session(
     tally: &mut Tally,
 ) {
     one_case(tally);
-    let mut places = [7u32; CAPACITIES];
-    let mut depths = [7u32; CAPACITIES + 1];
-    let mut counts = [7u16; PAGES as usize];
+    let mut places = [OLD as u32; CAPACITIES];
+    let mut depths = [OLD as u32; CAPACITIES + 1];
+    let mut counts = [OLD; PAGES as usize];
     let started = session::start(policy, k, &mut places, &mut depths, &mut counts);
     compare_started(started, policy, k, tally);
     match started {
@@ -385,7 +418,7 @@ fn compare_session(
             seed,
             tally,
         ),
-        Started::Refused(_) => {}
+        Started::Refused(_) => compare_untouched(&places, &depths, &counts, tally),
     }
 }
 

@@ -109,6 +109,11 @@ fn references(file: &[u8], n: usize, start: usize) -> Contents {
     }
 }
 
+// What the part of a file says that starts at its reference section, or its refusal.
+pub fn read_part(part: &[u8]) -> Contents {
+    references(part, 0, 0)
+}
+
 // What a file says, or its refusal.
 pub fn read_plain(file: &[u8]) -> Contents {
     if file.len() < 2 {

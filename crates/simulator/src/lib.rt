@@ -10,6 +10,7 @@ pub use cache::Cache;
 pub use cache::holds;
 pub use cache::run;
 pub use files::Contents;
+pub use files::read_part;
 pub use files::read_plain;
 pub use files::value_at;
 pub use frames::Frames;

@@ -150,7 +150,7 @@ fn compare_case(trace: &mut [u16; LONGEST], j: usize, tally: &mut Tally) {
 
 pub fn compare_lists(trace: &mut [u16; LONGEST], tally: &mut Tally) {
     let mut j = 0;
-    while j < 120 {
+    while j < 400 {
         compare_case(trace, j, tally);
         j += 1;
     }

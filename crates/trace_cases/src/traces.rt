@@ -114,9 +114,11 @@ fn compare_short_case(trace: &mut [u16; LONGEST], j: usize, tally: &mut Tally) {
 }
 
 pub fn compare_traces(trace: &mut [u16; LONGEST], tally: &mut Tally) {
-    compare_short(trace, 120, tally);
+    compare_short(trace, 400, tally);
     draw_trace(trace, 200, 0, 100, 4711);
     compare_policies(first(trace, 200), 64, tally);
     draw_trace(trace, 200, 2, 70, 4712);
+    compare_policies(first(trace, 200), 64, tally);
+    draw_trace(trace, 200, 1, 66, 4713);
     compare_policies(first(trace, 200), 64, tally);
 }

@@ -8,6 +8,12 @@ use Rattle.session_cases.proofs.compare_session.Tie as tie
 one-case-requires : tie.Need-one-case-requires
 one-case-requires c κs = search needs
 
+cast-places : tie.Need-cast-places
+cast-places c = search needs
+
+cast-depths : tie.Need-cast-depths
+cast-depths c = search needs
+
 start-requires : tie.Need-start-requires
 start-requires c κs = search needs
 
@@ -23,6 +29,9 @@ compare-run-requires c κs = alive-begun (c .before .before .before .before .bef
 enum-told : tie.Need-enum-told
 enum-told c = search needs
 
+compare-untouched-requires : tie.Need-compare-untouched-requires
+compare-untouched-requires c κs = search needs
+
 returns : tie.Need-returns
 returns c = search needs
 
@@ -34,10 +43,13 @@ compare-session-spec =
     tie.close
     (tie.spec
     one-case-requires
+    cast-places
+    cast-depths
     start-requires
     compare-started-requires
     enum-known-started
     compare-run-requires
     enum-told
+    compare-untouched-requires
     returns
     returns-2)

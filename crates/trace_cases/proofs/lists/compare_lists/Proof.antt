@@ -5,10 +5,10 @@ use Rattle.trace_cases.proofs.lists.compare_lists.Statement.{statement}
 use Rattle.trace_cases.proofs.lists.compare_lists.Tie as tie
 
 abbrev Inv-loop : tie.InvT-loop
-Inv-loop trace₀ tally₀ j₀ trace tally j = j ≤ 120
+Inv-loop trace₀ tally₀ j₀ trace tally j = j ≤ 400
 
 abbrev μ-loop : tie.MeasureT-loop
-μ-loop trace₀ tally₀ j₀ trace tally j = 120 - j
+μ-loop trace₀ tally₀ j₀ trace tally j = 400 - j
 
 loop-holds : tie.Need-loop-holds Inv-loop μ-loop
 loop-holds c = search needs
