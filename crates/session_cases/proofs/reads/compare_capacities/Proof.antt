@@ -1,8 +1,8 @@
--- `session_cases::compare_capacities` is safe and ends. Assumes nothing.
+-- `session_cases::reads::compare_capacities` is safe and ends. Assumes nothing.
 use Prim.Native.Nat.{_≤_, _-_, _+_}
 use borrow.Author.Needs.{needs}
-use Rattle.session_cases.proofs.compare_capacities.Statement.{statement}
-use Rattle.session_cases.proofs.compare_capacities.Tie as tie
+use Rattle.session_cases.proofs.reads.compare_capacities.Statement.{statement}
+use Rattle.session_cases.proofs.reads.compare_capacities.Tie as tie
 
 abbrev Inv-loop : tie.InvT-loop
 Inv-loop s depths past policy k tally₀ c₀ tally c = c ≤ k + 2

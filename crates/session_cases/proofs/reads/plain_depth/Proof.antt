@@ -1,8 +1,8 @@
--- `session_cases::plain_depth` is safe and ends. Assumes nothing.
+-- `session_cases::reads::plain_depth` is safe and ends. Assumes nothing.
 use Prim.Native.Nat.{_≤_, _-_}
 use borrow.Author.Needs.{needs}
-use Rattle.session_cases.proofs.plain_depth.Statement.{statement}
-use Rattle.session_cases.proofs.plain_depth.Tie as tie
+use Rattle.session_cases.proofs.reads.plain_depth.Statement.{statement}
+use Rattle.session_cases.proofs.reads.plain_depth.Tie as tie
 
 abbrev Inv-loop : tie.InvT-loop
 Inv-loop past page policy k c₀ c = c ≤ k
