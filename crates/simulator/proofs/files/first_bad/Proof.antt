@@ -1,0 +1,46 @@
+-- `simulator::files::first_bad` is safe and ends. Assumes nothing.
+use Prim.Native.Nat.{_≤_, _-_}
+use borrow.Author.Needs.{needs}
+use Rattle.simulator.proofs.files.first_bad.Statement.{statement}
+use Rattle.simulator.proofs.files.first_bad.Tie as tie
+
+abbrev Inv-loop : tie.InvT-loop
+Inv-loop file start m i₀ i = i ≤ m
+
+abbrev μ-loop : tie.MeasureT-loop
+μ-loop file start m i₀ i = m - i
+
+loop-holds : tie.Need-loop-holds Inv-loop μ-loop
+loop-holds c = search needs
+
+value-at-requires : tie.Need-value-at-requires Inv-loop μ-loop
+value-at-requires c κs = search needs
+
+returns : tie.Need-returns Inv-loop μ-loop
+returns c = search needs
+
+add-i : tie.Need-add-i Inv-loop μ-loop
+add-i c = search needs
+
+loop-less : tie.Need-loop-less Inv-loop μ-loop
+loop-less c = search needs
+
+loop-again : tie.Need-loop-again Inv-loop μ-loop
+loop-again c = search needs
+
+returns-2 : tie.Need-returns-2 Inv-loop μ-loop
+returns-2 c = search needs
+
+pub first-bad-spec : {M : Type 1} → statement M
+first-bad-spec =
+    tie.close
+    (tie.spec
+    Inv-loop
+    μ-loop
+    loop-holds
+    value-at-requires
+    returns
+    add-i
+    loop-less
+    loop-again
+    returns-2)

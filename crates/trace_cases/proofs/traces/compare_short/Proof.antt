@@ -1,0 +1,42 @@
+-- `trace_cases::traces::compare_short` is safe and ends. Assumes nothing.
+use Prim.Native.Nat.{_≤_, _-_}
+use borrow.Author.Needs.{needs}
+use Rattle.trace_cases.proofs.traces.compare_short.Statement.{statement}
+use Rattle.trace_cases.proofs.traces.compare_short.Tie as tie
+
+abbrev Inv-loop : tie.InvT-loop
+Inv-loop trace₀ cases tally₀ j₀ trace tally j = j ≤ cases
+
+abbrev μ-loop : tie.MeasureT-loop
+μ-loop trace₀ cases tally₀ j₀ trace tally j = cases - j
+
+loop-holds : tie.Need-loop-holds Inv-loop μ-loop
+loop-holds c = search needs
+
+compare-short-case-requires : tie.Need-compare-short-case-requires Inv-loop μ-loop
+compare-short-case-requires c κs = search needs
+
+add-j : tie.Need-add-j Inv-loop μ-loop
+add-j c = search needs
+
+loop-less : tie.Need-loop-less Inv-loop μ-loop
+loop-less c = search needs
+
+loop-again : tie.Need-loop-again Inv-loop μ-loop
+loop-again c = search needs
+
+returns : tie.Need-returns Inv-loop μ-loop
+returns c = search needs
+
+pub compare-short-spec : {M : Type 1} → statement M
+compare-short-spec =
+    tie.close
+    (tie.spec
+    Inv-loop
+    μ-loop
+    loop-holds
+    compare-short-case-requires
+    add-j
+    loop-less
+    loop-again
+    returns)
