@@ -11,4 +11,5 @@ pub mod ReferLaws
 pub mod SessionLaws
 pub mod ReferAnswers
 pub mod ReadLaws
+pub mod Driving
 pub mod Promises

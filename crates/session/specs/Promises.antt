@@ -49,12 +49,6 @@ pub start-unique : {policy k : ℕ} {p d c p₁ d₁ c₁ p₂ d₂ c₂ : List 
 start-unique a b =
     (a .answer ∙ sym (b .answer), a .places-are ∙ sym (b .places-are), a .depths-are ∙ sym (b .depths-are), a .counts-are ∙ sym (b .counts-are))
 
--- a call gives a session again
-pub alive-next : {s : Session} {page : ℕ} {p d c p′ d′ c′ : List ℕ} {r : Referenced} → Alive s p d c → Referring s page p d c p′ d′ c′ r
-    → Alive (r .session) p′ d′ c′
-alive-next {page = page} a f =
-    record { policy = a .policy; k = a .k; calls = page ∷ a .calls; gives = f .next (a .policy) (a .k) (a .calls) (a .gives) }
-
 -- two references that both meet the promise answer the same and leave the same
 pub refer-unique : {s : Session} {page : ℕ} {p d c p₁ d₁ c₁ p₂ d₂ c₂ : List ℕ} {r₁ r₂ : Referenced} → Alive s p d c
     → Referring s page p d c p₁ d₁ c₁ r₁ → Referring s page p d c p₂ d₂ c₂ r₂

@@ -1,6 +1,6 @@
 -- `session_cases::compare_session` is safe and ends. Assumes nothing.
 use borrow.Author.Needs.{needs}
-use Rattle.session_cases.specs.Driven.{alive-begun}
+use Rattle.session.specs.Driving.{alive-begun}
 use borrow.Author.Needs.{needs}
 use Rattle.session_cases.proofs.compare_session.Statement.{statement}
 use Rattle.session_cases.proofs.compare_session.Tie as tie

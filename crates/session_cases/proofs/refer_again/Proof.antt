@@ -1,6 +1,6 @@
 -- `session_cases::refer_again` is safe and ends. Assumes nothing.
 use borrow.Author.Needs.{needs}
-use Rattle.session_cases.specs.Driven.{alive-next}
+use Rattle.session.specs.Driving.{alive-next}
 use borrow.Author.Needs.{needs}
 use Rattle.session_cases.proofs.refer_again.Statement.{statement}
 use Rattle.session_cases.proofs.refer_again.Tie as tie

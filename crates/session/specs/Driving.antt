@@ -1,18 +1,18 @@
--- An accepted start gives a session; one that calls give is given by one call more, and every read may be asked of it.
+-- For whoever drives a session: an accepted start gives one, a reference gives one again, and every read may be asked of it.
 use Prim.Native.Nat.{ℕ}
 use native.Mathlib.Omega.{arith}
 use mathlib.Core.Path.{_≡_, refl, sym, _∙_}
 use mathlib.Core.List.{List, [], _∷_}
 use Rattle.rules.specs.declared.Answer.{Answer}
 use Rattle.rules.specs.declared.Answer.the-variants.{Accepted, Refused}
 use Rattle.session.specs.declared.Session.{Session}
 use Rattle.session.specs.declared.Started.{Started}
 use Rattle.session.specs.declared.Started.the-variants.{Begun}
 use Rattle.session.specs.declared.Referenced.{Referenced}
 use Rattle.session.specs.History.{startAnswer}
-use Rattle.session.specs.Memory.{Alive, Listable, Counting}
+use Rattle.session.specs.Memory.{Alive, Valued, Listable, Counting}
 use Rattle.session.specs.Answers.{Starting, Referring, startedAs, fresh}
 use Rattle.session.specs.StartLaws.{start-gives}
 
 pub alive-begun : {policy k : ℕ} {s : Session} {places depths counts places′ depths′ counts′ : List ℕ} {r : Started}
     → Starting policy k places depths counts places′ depths′ counts′ r → r ≡ Begun s → Alive s places′ depths′ counts′
@@ -38,3 +38,6 @@ listable a = record { policy = a .policy; k = a .k; calls = a .calls; value = a 
 
 pub counting : {s : Session} {places depths counts : List ℕ} → Alive s places depths counts → Counting s depths
 counting a = record { policy = a .policy; k = a .k; calls = a .calls; value = a .gives .value; tallied = a .gives .tallied }
+
+pub valued : {s : Session} {places depths counts : List ℕ} → Alive s places depths counts → Valued s
+valued a = record { policy = a .policy; k = a .k; calls = a .calls; value = a .gives .value }
