@@ -9,7 +9,7 @@ use crate::subject::{Counts, Rows, Sessions};
 use std::hint::black_box;
 use std::time::Instant;
 
-const ROUNDS: usize = 201;
+const ROUNDS: usize = 603;
 const WARM_UP: usize = 10;
 const LIMIT: usize = 64;
 const SEED: u64 = 1970;
@@ -34,14 +34,9 @@ fn median(mut numbers: Vec<f64>) -> f64 {
     numbers[numbers.len() / 2]
 }
 
-/// The best of three of each side, in turn: what else the machine does in that moment counts for neither.
+/// One of each side, one right after the other.
 fn round(proved: &mut dyn FnMut(), plain: &mut dyn FnMut()) -> (f64, f64) {
-    let mut best = (f64::MAX, f64::MAX);
-    for _ in 0..3 {
-        best.0 = best.0.min(nanoseconds(proved));
-        best.1 = best.1.min(nanoseconds(plain));
-    }
-    best
+    (nanoseconds(proved), nanoseconds(plain))
 }
 
 fn race(work: String, bar: f64, units: usize, proved: &mut dyn FnMut(), plain: &mut dyn FnMut()) -> Line {

@@ -1,6 +1,7 @@
 // Numbers that look random, and traces made of them: a step by multiplication modulo a prime (Lehmer 1951), so that every run is the same.
 pub const LONGEST: usize = 4100;
 
+// The number after this one.
 pub fn next_draw(seed: u64) -> u64 {
     seed % 2147483647 * 48271 % 2147483647
 }
@@ -37,6 +38,7 @@ fn reference(kind: usize, i: usize, seed: u64, spread: u16) -> u16 {
     page(below(seed, spread))
 }
 
+// Stores a page where the trace has room for it.
 pub fn store(trace: &mut [u16; LONGEST], i: usize, page: u16) {
     if i < LONGEST {
         trace[i] = page;

@@ -16,6 +16,7 @@ fn note(tally: &mut Tally, entry: usize) {
     }
 }
 
+// One case of the present subject.
 pub fn one_case(tally: &mut Tally) {
     note(tally, CASES);
 }
@@ -82,6 +83,7 @@ fn print_met(tally: &Tally) {
     }
 }
 
+// The last lines: the refusals that were met, and how many comparisons differed.
 pub fn print_end(tally: &Tally) {
     say(b"refusals met:");
     print_met(tally);

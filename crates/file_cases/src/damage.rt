@@ -105,6 +105,7 @@ fn compare_longest(file: &mut [u8; SIZE], tally: &mut Tally) {
     compare_file(first(file, 8323), tally);
 }
 
+// Files cut, changed and with every set of faults, and the longest one with a byte more and a byte less.
 pub fn compare_files(tally: &mut Tally) {
     let mut file = [0u8; SIZE];
     compare_cuts(&mut file, 0, 0, tally);

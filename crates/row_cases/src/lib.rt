@@ -179,6 +179,7 @@ fn compare_row(calls: usize, spread: u16, first_seed: u64, tally: &mut Tally) {
     one_case(tally);
 }
 
+// A row driven by a fixed script, and seven by drawn calls, over few frames and over many.
 pub fn compare_rows(tally: &mut Tally) {
     compare_row(120, 0, 1, tally);
     compare_row(1000, 1, 61, tally);

@@ -285,7 +285,7 @@ fn compare_session(
     }
 }
 
-// Every policy number up to 4, and every limit up to 66: faults of both kinds, and none.
+// One policy number with every limit from 0 to 66.
 fn compare_starts(policy: u8, past: &mut [u16; LONGEST], tally: &mut Tally) {
     let mut k = 0;
     while k < 67 {
@@ -294,6 +294,7 @@ fn compare_starts(policy: u8, past: &mut [u16; LONGEST], tally: &mut Tally) {
     }
 }
 
+// Five policy numbers with every limit, so that both faults of a start, one, or none apply; then a session of each policy that is filled.
 pub fn compare_sessions(past: &mut [u16; LONGEST], tally: &mut Tally) {
     compare_starts(0, past, tally);
     compare_starts(1, past, tally);

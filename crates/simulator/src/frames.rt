@@ -9,6 +9,7 @@ pub struct Frames {
     pub clock: usize,
 }
 
+// A row that holds nothing.
 pub fn no_frames() -> Frames {
     Frames {
         states: [0u8; 64],
@@ -18,6 +19,7 @@ pub fn no_frames() -> Frames {
     }
 }
 
+// The state of a frame; one that is none is absent.
 pub fn state(states: &[u8; 64], frame: usize) -> u8 {
     if frame < 64 {
         return states[frame];

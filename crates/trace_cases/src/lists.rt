@@ -148,6 +148,7 @@ fn compare_case(trace: &mut [u16; LONGEST], j: usize, tally: &mut Tally) {
     compare_list(part, 2, k, t, tally);
 }
 
+// Lists after drawn numbers of references, place by place.
 pub fn compare_lists(trace: &mut [u16; LONGEST], tally: &mut Tally) {
     let mut j = 0;
     while j < 400 {

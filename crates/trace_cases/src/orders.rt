@@ -65,6 +65,7 @@ fn compare_longest(trace: &mut [u16; LONGEST], policy: u8, tally: &mut Tally) {
     compare_list(first(trace, 40), policy, 64, 40, tally);
 }
 
+// Every set of faults of a count and of a list.
 pub fn compare_orders(trace: &mut [u16; LONGEST], tally: &mut Tally) {
     compare_sets(trace, 0, tally);
     compare_sets(trace, 1, tally);

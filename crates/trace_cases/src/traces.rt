@@ -113,6 +113,7 @@ fn compare_short_case(trace: &mut [u16; LONGEST], j: usize, tally: &mut Tally) {
     compare_policies(first(trace, n), 1 + j % 1000 * 5 % 16, tally);
 }
 
+// Whole traces of every kind, under each policy.
 pub fn compare_traces(trace: &mut [u16; LONGEST], tally: &mut Tally) {
     compare_short(trace, 400, tally);
     draw_trace(trace, 200, 0, 100, 4711);
