@@ -7,7 +7,7 @@ use mathlib.Core.List.{List, _∷_}
 use lib.ListN.{length, drop, getD, set}
 use borrow.Author.Tests.{eq-eqb}
 use Rattle.rules.specs.Limits.{pages}
-use Rattle.theory.specs.Pages.{times}
+use Rattle.rules.specs.Lists.{times}
 use Rattle.kept.specs.Entries.{entry}
 use Rattle.kept.specs.KeptPolicies.{frequency}
 use Rattle.kept.specs.Frequencies.{frequencies, frequency-is}

@@ -11,7 +11,7 @@ use Rattle.rules.specs.Refusals.{whenAccepted}
 use Rattle.rules.specs.declared.Answer.{Answer}
 use Rattle.rules.specs.declared.Answer.the-variants.{Accepted, Refused}
 use Rattle.rules.specs.declared.Refusal.{Refusal}
-use Rattle.theory.specs.Pages.{holds}
+use Rattle.rules.specs.Lists.{holds}
 use Rattle.theory.specs.Policy.{policyOf}
 use Rattle.theory.specs.Plain.{hitsAt, hitsFrom, hitsUpTo, cacheAfter}
 use Rattle.theory.specs.OnePass.{listOf}

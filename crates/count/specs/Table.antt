@@ -14,7 +14,7 @@ use Rattle.rules.specs.Cases.{by-cases}
 use Rattle.rules.specs.Limits.{capacities, references}
 use Rattle.theory.specs.Policy.{policyOf}
 use Rattle.theory.specs.Plain.{hitsAt, hitsFrom, hitsUpTo, hitsAfter}
-use Rattle.theory.specs.Pages.{one}
+use Rattle.rules.specs.Lists.{one}
 use Rattle.theory.specs.Priority.{Policy}
 use Rattle.theory.specs.OnePass.{depthHits, within, depth, listAfter}
 use Rattle.theory.specs.Order.{policy-order}

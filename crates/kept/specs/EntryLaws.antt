@@ -6,7 +6,7 @@ use mathlib.Core.Path.{_≡_, refl, sym, _∙_, ap}
 use mathlib.Core.List.{List, [], _∷_, map}
 use lib.Dec.{ltb, eqb}
 use borrow.Author.Tests.{eqb-true, eqb-false, eq-eqb, ne-eqb, ltb-true, ltb-false, lt-ltb, le-ltb}
-use Rattle.theory.specs.Pages.{holds, times}
+use Rattle.rules.specs.Lists.{holds, times}
 use Rattle.theory.specs.Priority.{Priority, Policy, higher, lower}
 use Rattle.theory.specs.Policy.{byMore, smaller}
 use Rattle.theory.specs.OnePass.{carry, place}

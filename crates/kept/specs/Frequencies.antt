@@ -8,7 +8,7 @@ use lib.Dec.{eqb}
 use lib.ListN.{length, getD, replicate, length-replicate}
 use borrow.Author.Tests.{eqb-true, eqb-false, eq-eqb, ne-eqb}
 use Rattle.rules.specs.Limits.{pages}
-use Rattle.theory.specs.Pages.{times}
+use Rattle.rules.specs.Lists.{times}
 use Rattle.rules.specs.Cases.{by-cases}
 use Rattle.kept.specs.Below.{Below}
 use Rattle.kept.specs.Tally.{bump, bump-length, bump-same, bump-other, zeros-at}

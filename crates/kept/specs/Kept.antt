@@ -7,7 +7,7 @@ use mathlib.Core.List.{List, [], _∷_, map}
 use lib.Dec.{eqb}
 use lib.ListN.{length, take}
 use lib.Seq.{take-all}
-use Rattle.theory.specs.Pages.{times}
+use Rattle.rules.specs.Lists.{times}
 use Rattle.theory.specs.Priority.{Priority, Policy}
 use Rattle.theory.specs.OnePass.{place, step, listAfter, depthFrom}
 use Rattle.kept.specs.Entries.{entry, put}

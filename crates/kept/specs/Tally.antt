@@ -10,7 +10,7 @@ use lib.ListN.{length, getD, set, replicate, length-set, length-replicate, List�
 use lib.Seq.{getD-set-same, getD-set-other, set-out}
 use borrow.Author.Tests.{ltb-true, ltb-false, eqb-true, eqb-false, leb-true, leb-false, le-leb, lt-leb}
 use Rattle.rules.specs.Limits.{capacities}
-use Rattle.theory.specs.Pages.{one}
+use Rattle.rules.specs.Lists.{one}
 use Rattle.theory.specs.Priority.{Policy}
 use Rattle.theory.specs.OnePass.{listAfter, depth, within, depthHits}
 use Rattle.rules.specs.Cases.{by-cases}

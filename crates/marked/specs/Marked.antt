@@ -3,7 +3,7 @@ use mathlib.Core.Path.{_≡_, refl}
 use mathlib.Core.List.{List, _++_, map}
 use Rattle.rules.specs.Case.{Case, gotten, wished}
 use Rattle.rules.specs.Refusals as refusals
-use Rattle.theory.specs.Pages as pages
+use Rattle.rules.specs.Lists as lists
 use Rattle.theory.specs.Policy as policies
 use Rattle.theory.specs.Plain as plain
 use Rattle.theory.specs.OnePass as onePass
@@ -18,5 +18,5 @@ abbrev pub table : List Case
 table = countTable ++ (answerTable ++ rowTable)
 
 pub marked : map gotten table ≡ map wished table
-unfolding plain.hitsFrom plain.hitsAt plain.hitsAfter plain.cacheAfter plain.refer plain.evict plain.without plain.lowest onePass.listOf onePass.listAfter onePass.step onePass.place onePass.carry policies.policyOf policies.lru policies.lfu policies.opt policies.byMore policies.smaller policies.nearness pages.holds pages.times pages.one countAnswer refusals.firstBadPage answersOf victimAfterCalls puts
+unfolding plain.hitsFrom plain.hitsAt plain.hitsAfter plain.cacheAfter plain.refer plain.evict lists.without plain.lowest onePass.listOf onePass.listAfter onePass.step onePass.place onePass.carry policies.policyOf policies.lru policies.lfu policies.opt policies.byMore policies.smaller policies.nearness lists.holds lists.times lists.one countAnswer refusals.firstBadPage answersOf victimAfterCalls puts
 marked = refl

@@ -3,7 +3,7 @@ use Prim.Native.Nat.{ℕ}
 use mathlib.Core.Path.{_≡_, refl}
 use mathlib.Core.List.{List, [], _∷_}
 use Rattle.rules.specs.Refusals.{firstBadPage}
-use Rattle.theory.specs.Pages as pages
+use Rattle.rules.specs.Lists as lists
 use Rattle.theory.specs.Policy as policies
 use Rattle.theory.specs.Plain as plain
 use Rattle.file_theory.specs.Format.{numbers}
@@ -16,7 +16,7 @@ abbrev sample : List ℕ
 sample = encode (1 ∷ 3 ∷ 4 ∷ []) (2 ∷ 3 ∷ 2 ∷ 1 ∷ 5 ∷ 2 ∷ 4 ∷ 5 ∷ 3 ∷ 2 ∷ 5 ∷ 2 ∷ [])
 
 pub sample-report : report sample ≡ text "capacity lru lfu opt\n1 0 0 0\n3 5 5 6\n4 6 6 7\nreferences 12\n"
-unfolding report lines line ending decimal decimalIn traceIn traceBehind referencesIn pagesOf pagesAnswer rising numbers bytesOf firstBadPage plain.hitsAt plain.hitsAfter plain.cacheAfter plain.refer plain.evict plain.without plain.lowest policies.policyOf policies.lru policies.lfu policies.opt policies.byMore policies.smaller policies.nearness pages.holds pages.times pages.one
+unfolding report lines line ending decimal decimalIn traceIn traceBehind referencesIn pagesOf pagesAnswer rising numbers bytesOf firstBadPage plain.hitsAt plain.hitsAfter plain.cacheAfter plain.refer plain.evict lists.without plain.lowest policies.policyOf policies.lru policies.lfu policies.opt policies.byMore policies.smaller policies.nearness lists.holds lists.times lists.one
 sample-report = refl
 
 -- no capacities: the first line and the last

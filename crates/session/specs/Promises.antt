@@ -6,7 +6,7 @@ use mathlib.Core.Path.{_≡_, refl, sym, _∙_, ap}
 use mathlib.Core.List.{List, [], _∷_, reverse}
 use lib.ListN.{length, take}
 use Rattle.rules.specs.Limits.{references, pages}
-use Rattle.theory.specs.Pages.{holds}
+use Rattle.rules.specs.Lists.{holds}
 use Rattle.theory.specs.Policy.{policyOf}
 use Rattle.theory.specs.Plain.{cacheAfter, hitsAt}
 use Rattle.theory.specs.OnePass.{within}

@@ -9,7 +9,7 @@ use lib.ListN.{getD, replicate}
 use borrow.Author.Tests.{eq-eqb, eqb-true, eqb-false}
 use Rattle.rules.specs.Limits.{lru, lfu, opt, pages}
 use Rattle.rules.specs.Cases.{by-cases}
-use Rattle.theory.specs.Pages.{times}
+use Rattle.rules.specs.Lists.{times}
 use Rattle.theory.specs.Policy as policies
 use Rattle.theory.specs.Policy.{policyOf}
 use Rattle.theory.specs.Priority.{Policy}

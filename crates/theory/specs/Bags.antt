@@ -9,7 +9,7 @@ use mathlib.Core.List.{List, [], _∷_}
 use lib.Dec.{eqb, ltb}
 use lib.ListN.{length}
 use borrow.Author.Tests.{eq-eqb, eqb-true, lt-ltb, le-ltb}
-use Rattle.theory.specs.Pages.{holds, times, one}
+use Rattle.rules.specs.Lists.{holds, times, one}
 use Rattle.rules.specs.Cases.{by-cases}
 
 unfoldable pub sum : (ℕ → ℕ) → List ℕ → ℕ

@@ -10,7 +10,7 @@ use lib.Dec.{eqb}
 use lib.ListN.{length, take}
 use lib.Seq.{take-nil}
 use borrow.Author.Tests.{eqb-true}
-use Rattle.theory.specs.Pages.{holds}
+use Rattle.rules.specs.Lists.{holds}
 use Rattle.theory.specs.Priority.{Priority, lower, higher}
 use Rattle.theory.specs.Plain.{lowest}
 use Rattle.theory.specs.OnePass.{carry, place}

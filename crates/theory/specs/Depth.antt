@@ -9,7 +9,7 @@ use lib.Dec.{eqb, leb}
 use lib.ListN.{take, length}
 use lib.Seq.{take-nil}
 use borrow.Author.Tests.{le-leb, lt-leb, leb-false}
-use Rattle.theory.specs.Pages.{holds}
+use Rattle.rules.specs.Lists.{holds}
 use Rattle.theory.specs.OnePass.{depth, depthFrom, within}
 use Rattle.rules.specs.Cases.{by-cases}
 

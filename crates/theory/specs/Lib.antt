@@ -1,5 +1,4 @@
 -- The theory of one-pass counting (Mattson 1970). Definitions, which a reader must believe:
-pub mod Pages
 pub mod Priority
 pub mod Policy
 pub mod Plain

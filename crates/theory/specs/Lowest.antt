@@ -6,7 +6,7 @@ use mathlib.Core.Path.{_≡_, refl, sym, _∙_, ap}
 use mathlib.Core.List.{List, [], _∷_}
 use lib.Dec.{eqb, ltb}
 use borrow.Author.Tests.{eqb-true, eqb-false, eq-eqb}
-use Rattle.theory.specs.Pages.{holds}
+use Rattle.rules.specs.Lists.{holds}
 use Rattle.theory.specs.Priority.{Priority, Order, lower, higher}
 use Rattle.theory.specs.Plain.{lowest}
 use Rattle.theory.specs.Bags.{Same, same-holds}

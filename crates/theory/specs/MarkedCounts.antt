@@ -6,7 +6,7 @@ use mathlib.Core.Bool.{cond}
 use lib.ListN.{length}
 use Rattle.rules.specs.Case.{Case, gotten, wished}
 use Rattle.rules.specs.Limits.{lru, lfu, opt}
-use Rattle.theory.specs.Pages as pages
+use Rattle.rules.specs.Lists as lists
 use Rattle.theory.specs.Policy as policies
 use Rattle.theory.specs.Plain as plain
 use Rattle.theory.specs.OnePass as onePass
@@ -41,5 +41,5 @@ countTable =
     ∷ []
 
 pub count-table-holds : map gotten countTable ≡ map wished countTable
-unfolding plain.hitsFrom plain.hitsAt plain.hitsAfter plain.cacheAfter plain.refer plain.evict plain.without plain.lowest onePass.listOf onePass.listAfter onePass.step onePass.place onePass.carry policies.policyOf policies.lru policies.lfu policies.opt policies.byMore policies.smaller policies.nearness pages.holds pages.times pages.one
+unfolding plain.hitsFrom plain.hitsAt plain.hitsAfter plain.cacheAfter plain.refer plain.evict lists.without plain.lowest onePass.listOf onePass.listAfter onePass.step onePass.place onePass.carry policies.policyOf policies.lru policies.lfu policies.opt policies.byMore policies.smaller policies.nearness lists.holds lists.times lists.one
 count-table-holds = refl

@@ -7,9 +7,9 @@ use mathlib.Core.List.{List, [], _∷_}
 use lib.Dec.{eqb}
 use lib.ListN.{length}
 use borrow.Author.Tests.{eqb-true, ltb-false}
-use Rattle.theory.specs.Pages.{holds, times}
+use Rattle.rules.specs.Lists.{holds, times, without}
 use Rattle.theory.specs.Priority.{Priority, Policy}
-use Rattle.theory.specs.Plain.{lowest, without, evict, refer, cacheAfter}
+use Rattle.theory.specs.Plain.{lowest, evict, refer, cacheAfter}
 use Rattle.theory.specs.Bags.{holds-times}
 use Rattle.rules.specs.Cases.{by-cases}
 

@@ -4,7 +4,7 @@ use mathlib.Core.Bool.{Bool, cond, _&&_}
 use mathlib.Core.List.{List, [], _∷_, reverse}
 use lib.Dec.{eqb, leb}
 use lib.ListN.{take, drop}
-use Rattle.theory.specs.Pages.{one}
+use Rattle.rules.specs.Lists.{one}
 use Rattle.theory.specs.Priority.{Priority, Policy, higher, lower}
 use Rattle.theory.specs.Policy.{policyOf}
 

@@ -9,7 +9,7 @@ use borrow.Author.Tests.{ltb-true, ltb-false, lt-ltb, le-ltb, eqb-true, eqb-fals
 use Rattle.rules.specs.Limits as limits
 use Rattle.theory.specs.Priority.{Priority, Policy, Order}
 use Rattle.theory.specs.Policy.{byMore, smaller, nearness, lru, lfu, opt, policyOf}
-use Rattle.theory.specs.Pages.{times}
+use Rattle.rules.specs.Lists.{times}
 use Rattle.rules.specs.Cases.{by-cases, clash}
 
 pub smaller-order : Order smaller

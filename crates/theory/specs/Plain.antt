@@ -4,7 +4,7 @@ use mathlib.Core.Bool.{Bool, cond, not}
 use mathlib.Core.List.{List, [], _∷_, reverse}
 use lib.Dec.{eqb}
 use lib.ListN.{length}
-use Rattle.theory.specs.Pages.{holds, one}
+use Rattle.rules.specs.Lists.{holds, without, one}
 use Rattle.theory.specs.Priority.{Priority, Policy, lower}
 use Rattle.theory.specs.Policy.{policyOf}
 
@@ -12,10 +12,6 @@ use Rattle.theory.specs.Policy.{policyOf}
 unfoldable pub lowest : Priority → ℕ → List ℕ → ℕ
 lowest above y [] = y
 lowest above y (z ∷ l) = lowest above (lower above y z) l
-
-unfoldable pub without : ℕ → List ℕ → List ℕ
-without p [] = []
-without p (z ∷ l) = cond (eqb z p) l (z ∷ without p l)
 
 -- the page of lowest priority leaves
 unfoldable pub evict : Priority → List ℕ → List ℕ

@@ -6,7 +6,7 @@ use mathlib.Core.List.{List, [], _∷_}
 use lib.Dec.{ltb, eqb}
 use lib.ListN.{length}
 use Rattle.rules.specs.Limits as limits
-use Rattle.theory.specs.Pages.{times}
+use Rattle.rules.specs.Lists.{times}
 use Rattle.theory.specs.Priority.{Priority, Policy}
 
 -- by this number, more is higher; ties by that order

@@ -8,7 +8,7 @@ use lib.Dec.{ltb, eqb}
 use lib.ListN.{length}
 use borrow.Author.Tests.{lt-ltb, eq-eqb, ne-eqb}
 use Rattle.rules.specs.Cases.{by-cases, clash}
-use Rattle.theory.specs.Pages.{holds, times}
+use Rattle.rules.specs.Lists.{holds, times}
 use Rattle.theory.specs.Policy.{byMore, smaller, nearness, lru, lfu, opt}
 use Rattle.theory.specs.Order.{byMore-more, byMore-equal}
 

@@ -9,9 +9,9 @@ use lib.Dec.{eqb, leb, ltb}
 use lib.ListN.{length, take, length-take}
 use lib.Seq.{take-nil, take-take}
 use borrow.Author.Tests.{eqb-true, eqb-false, eq-eqb, ne-eqb, ltb-true, le-ltb, le-leb, lt-leb, lt-ltb}
-use Rattle.theory.specs.Pages.{holds, times, one}
+use Rattle.rules.specs.Lists.{holds, times, one, without}
 use Rattle.theory.specs.Priority.{Priority, Policy, Order, lower}
-use Rattle.theory.specs.Plain.{lowest, without, evict, refer, cacheAfter, hitsAfter, missesAfter}
+use Rattle.theory.specs.Plain.{lowest, evict, refer, cacheAfter, hitsAfter, missesAfter}
 use Rattle.theory.specs.OnePass.{place, listAfter, unlimited, depth, depthFrom, within, depthHits}
 use Rattle.theory.specs.Bags.{Same, sum, same-holds, same-length, same-times, holds-times}
 use Rattle.theory.specs.Lowest.{Lowest, lowest-is, lowest-unique}

@@ -10,7 +10,7 @@ use lib.Dec.{eqb, ltb}
 use lib.ListN.{length, take, length-take}
 use lib.Seq.{take-take}
 use borrow.Author.Tests.{ltb-true, ltb-false, lt-ltb, le-ltb}
-use Rattle.theory.specs.Pages.{holds, times, one}
+use Rattle.rules.specs.Lists.{holds, times, one}
 use Rattle.theory.specs.Priority.{Policy, Order}
 use Rattle.theory.specs.Plain.{cacheAfter, hitsAfter, missesAfter}
 use Rattle.theory.specs.OnePass.{listAfter, unlimited, depth, within, depthHits}
