@@ -17,6 +17,7 @@ use Rattle.rules.specs.declared.Answer.the-variants.{Accepted}
 use Rattle.theory.specs.Policy.{policyOf}
 use Rattle.kept.specs.Below.{Below}
 use Rattle.kept.specs.Tally.{tally}
+use Rattle.kept.specs.Memory.{depthsAfter}
 use Rattle.count.specs.declared.runs.Run.{Run}
 use Rattle.count.specs.Count.{countAnswer, countTable, withinLimits, Counted}
 use Rattle.count.specs.Checks.{limitsNumber, limits-refused, limits-passed, limits-within}
@@ -62,9 +63,9 @@ module _ (trace : List ℕ) (policy k number : ℕ) (table : List ℕ) (checked 
             let w = limits-within policy k (length trace) (sym checked ∙ passed) in
             record { low = w .low; high = w .high; short = w .few; good = all-pages 0 trace (omega arith); within = omega arith }
 
-        module _ {run : Run} (ran : Ran (policyOf policy) trace k (length trace) run) where
+        module _ {run : Run} (ran : Ran policy trace k (length trace) run) where
           depths-at : run .depths ≡ tally (policyOf policy) k (reverse trace) []
-          depths-at = ran .depths-are ∙ rw (take-length trace, drop-length trace)
+          depths-at = ran .running .depths-are ∙ (unfold depthsAfter in rw (take-length trace, drop-length trace))
 
           pub count-fillable : Fillable (run .depths) k table
           count-fillable =

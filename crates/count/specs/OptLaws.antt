@@ -1,44 +1,38 @@
 -- OPT's look ahead, from the trace's end to its start: what the backward pass has found when `i` references are left.
-use Prim.Native.Nat.{ℕ, zero, suc, _+_, _*_, _-_, _≤_, _<_}
+use Prim.Native.Nat.{ℕ, zero, suc, _+_, _-_, _≤_, _<_}
 use native.Mathlib.Omega.{arith}
 use native.Mathlib.Numerals.{add-one}
 use mathlib.Core.Path.{_≡_, refl, sym, _∙_, ap}
 use mathlib.Core.List.{List, [], _∷_, _++_, append-assoc}
-use lib.ListN.{length, take, drop, getD, set, take-append-drop, length-drop, length-take, List·getD-append}
-use lib.Seq.{take-suc, drop-cons, set-at, drop-length, length-take-le, take-length}
-use borrow.Author.Tests.{eq-eqb}
-use Rattle.rules.specs.Limits.{pages}
+use lib.ListN.{length, take, drop, getD, set, replicate, take-append-drop, length-append, length-drop, List·getD-append}
+use lib.Seq.{take-suc, drop-cons, set-at, drop-length, length-take-le}
+use borrow.Author.Tests.{ne-eqb}
+use Rattle.rules.specs.Limits.{references, pages, lru, lfu, opt}
 use Rattle.theory.specs.Policy.{nearness}
-use Rattle.kept.specs.Below.{Below}
-use Rattle.kept.specs.Entries.{entry}
-use Rattle.kept.specs.KeptPolicies.{sooner}
 use Rattle.kept.specs.Nexts.{coming, coming-is, nexts, nexts-at, nexts-length}
-use Rattle.count.specs.Runs.{Fit, LookAhead}
-use Rattle.count.specs.RunLaws.{before, below-at}
+use Rattle.kept.specs.Memory.{ranksAfter}
+use Rattle.kept.specs.MemoryLaws.{no-ranks}
+use Rattle.count.specs.Runs.{Fit, Followable, LookAhead}
+use Rattle.count.specs.RunLaws.{below-at, below-drop}
 
 pub record Ahead (trace memory : List ℕ) (i : ℕ) (found near : List ℕ) : Type 0 where
   pub left : i ≤ length trace
   pub found-is : found ≡ take i memory ++ (nexts (drop i trace) ++ drop (length trace) memory)
   pub near-is : near ≡ coming (drop i trace)
 
-pub ahead-start : {trace memory near : List ℕ} → near ≡ coming [] → Ahead trace memory (length trace) memory near
-unfolding nexts
-ahead-start {trace} {memory} e =
+pub ahead-start : {trace memory near : List ℕ} → LookAhead trace memory near → Ahead trace memory (length trace) memory near
+unfolding nexts coming
+ahead-start {trace} {memory} asked =
     record {
       left = omega arith;
       found-is = rw (drop-length trace) (sym (take-append-drop (length trace) memory));
-      near-is = rw (drop-length trace) e;
+      near-is = rw (drop-length trace) (asked .clear);
     }
 
-below-drop : (n i : ℕ) (l : List ℕ) → Below n l → Below n (drop i l)
-below-drop n zero l h = h
-below-drop n (suc i) [] h = tt
-below-drop n (suc i) (z ∷ l) h = below-drop n i l (h .1)
-
-pub ahead-page : {trace memory : List ℕ} → LookAhead trace memory → (j : ℕ) → j < length trace → getD trace j 0 < pages
+pub ahead-page : {trace memory clear : List ℕ} → LookAhead trace memory clear → (j : ℕ) → j < length trace → getD trace j 0 < pages
 ahead-page {trace} asked j h = below-at pages trace j (asked .good) h
 
-module _ {trace memory found near : List ℕ} (asked : LookAhead trace memory) where
+module _ {trace memory clear found near : List ℕ} (asked : LookAhead trace memory clear) where
   ahead-step : (j : ℕ) → suc j ≤ length trace → Ahead trace memory (suc j) found near
       → Ahead trace memory j (set found j (getD near (getD trace j 0) 0)) (set near (getD trace j 0) (length trace - suc j + 1))
   unfolding nexts coming
@@ -72,31 +66,37 @@ module _ {trace memory found near : List ℕ} (asked : LookAhead trace memory) w
       one-less j = omega arith
 
 pub ahead-end : {trace memory found near : List ℕ} (i : ℕ) → i ≤ 0 → Ahead trace memory i found near
-    → found ≡ nexts trace ++ drop (length trace) memory
-ahead-end zero h a = a .found-is
+    → (found ≡ nexts trace ++ drop (length trace) memory) × (near ≡ coming trace)
+ahead-end zero h a = (a .found-is, a .near-is)
 ahead-end (suc i) h a = absurd (omega arith)
 
-module _ {trace : List ℕ} {k t : ℕ} (fit : Fit trace k t) (i : ℕ) (h : i < t) where
-  here : drop i trace ≡ getD trace i 0 ∷ drop (suc i) trace
-  here = drop-cons trace i 0 (omega (arith, fit .within))
+-- LRU and LFU start with no rank and look up nothing
+pub back-followable : {trace nexts ranks : List ℕ} {policy k t : ℕ} → Fit trace k t → policy < opt → ranks ≡ replicate pages 0
+    → Followable trace policy k t nexts ranks
+back-followable {trace} {policy = policy} fit back e =
+    record {
+      fit = fit;
+      ranks-are = e ∙ no-ranks policy back trace;
+      looks = λ i h not-lru not-lfu. absurd (not-lfu (omega (arith, not-lru)));
+    }
 
-  pub opt-old : (old : ℕ) → old ≡ entry (λ p. length trace - i) (getD trace i 0)
-      → old ≡ entry (sooner (before trace i) (drop i trace)) (getD trace i 0)
-  unfolding entry sooner nearness
-  opt-old old o =
-      let rest : suc (length (drop (suc i) trace)) ≡ length trace - i =
-      rw (length-drop (suc i) trace) (omega (arith, fit .within)) in
-      rw (o, here, eq-eqb (getD trace i 0) (getD trace i 0) refl, rest)
+-- OPT starts with what one pass from the trace's end has found
+pub ahead-followable : (memory : List ℕ) {trace found near : List ℕ} {policy k t : ℕ} → Fit trace k t → opt ≤ policy
+    → (found ≡ nexts trace ++ drop (length trace) memory) × (near ≡ coming trace) → Followable trace policy k t found near
+unfolding ranksAfter
+ahead-followable memory {trace} {policy = policy} fit ahead e =
+    record {
+      fit = fit;
+      ranks-are = e .1 ∙ rw (ne-eqb policy lru (λ q. omega arith), ne-eqb policy lfu (λ q. omega arith));
+      looks = λ i h not-lru not-lfu.
+          rw (e .0, List·getD-append (nexts trace) (drop (length trace) memory) 0 i (omega (arith, nexts-length trace)))
+          (nexts-at trace i h);
+    }
 
-  next-found : (found memory : List ℕ) → found ≡ nexts trace ++ drop (length trace) memory
-      → getD found i 0 ≡ nearness (getD trace i 0) (drop (suc i) trace)
-  next-found found memory f =
-      rw (f, List·getD-append (nexts trace) (drop (length trace) memory) 0 i (omega (arith, nexts-length trace, fit .within)))
-      (nexts-at trace i (omega (arith, fit .within)))
-
-  pub opt-new : (found memory : List ℕ) → found ≡ nexts trace ++ drop (length trace) memory → (new : ℕ)
-      → new ≡ entry (λ p. getD found i 0) (getD trace i 0)
-      → new ≡ entry (sooner (before trace (i + 1)) (drop (i + 1) trace)) (getD trace i 0)
-  unfolding entry sooner
-  opt-new found memory f new o =
-      rw (o, next-found found memory f, add-one)
+-- as many ranks stand there as before
+pub ahead-length : (memory : List ℕ) {trace found : List ℕ} {k t : ℕ} → Fit trace k t → length memory ≡ references
+    → found ≡ nexts trace ++ drop (length trace) memory → length found ≡ references
+ahead-length memory {trace} fit room e =
+    ap length e
+    ∙ rw (length-append (nexts trace) (drop (length trace) memory), nexts-length trace, length-drop (length trace) memory)
+    (omega (arith, fit .short))

@@ -1,16 +1,19 @@
 -- What a run over the first references of a trace asks and gives.
-use Prim.Native.Nat.{ℕ, _≤_}
+use Prim.Native.Nat.{ℕ, suc, _≤_, _<_}
 use mathlib.Core.Path.{_≡_}
-use mathlib.Core.List.{List, map, reverse}
-use lib.ListN.{length, take, drop}
+use mathlib.Core.List.{List, [], reverse}
+use lib.ListN.{length, take, drop, getD, replicate}
 use Rattle.rules.specs.Limits.{capacities, references, pages}
-use Rattle.theory.specs.Priority.{Policy}
-use Rattle.theory.specs.OnePass.{listAfter}
 use Rattle.kept.specs.Below.{Below}
-use Rattle.kept.specs.Entries.{pageOf}
-use Rattle.kept.specs.Tally.{tally}
+use Rattle.kept.specs.Memory.{ranksAfter, Running}
+use Rattle.step.specs.RankLaws.{LooksAhead}
 use Rattle.count.specs.declared.runs.Run.{Run}
 
+-- the references before i, latest first
+abbrev pub before : List ℕ → ℕ → List ℕ
+before trace i = reverse (take i trace)
+
+-- a trace, a limit and a number of references that no refusal stands against
 pub record Fit (trace : List ℕ) (k t : ℕ) : Type 0 where
   pub low : 1 ≤ k
   pub high : k ≤ capacities
@@ -18,14 +21,19 @@ pub record Fit (trace : List ℕ) (k t : ℕ) : Type 0 where
   pub good : Below pages trace
   pub within : t ≤ length trace
 
-pub record Ran (policy : Policy) (trace : List ℕ) (k t : ℕ) (r : Run) : Type 0 where
-  pub room : length (r .list) ≡ capacities
-  pub inside : r .length ≤ capacities
-  pub list-is : map pageOf (take (r .length) (r .list)) ≡ listAfter policy k (reverse (take t trace)) (drop t trace)
-  pub length-is : r .length ≡ length (listAfter policy k (reverse (take t trace)) (drop t trace))
-  pub depths-are : r .depths ≡ tally policy k (reverse (take t trace)) (drop t trace)
+-- the run after t references, with the rest of the trace still to come
+pub record Ran (policy : ℕ) (trace : List ℕ) (k t : ℕ) (r : Run) : Type 0 where
+  pub ranks : List ℕ
+  pub running : Running policy k (before trace t) (drop t trace) (r .length) (r .list) (r .depths) ranks
 
-pub record LookAhead (trace nexts : List ℕ) : Type 0 where
+-- before the first reference: the ranks are those of the run's start, and each reference's next rank was found if the policy asks for it
+pub record Followable (trace : List ℕ) (policy k t : ℕ) (nexts ranks : List ℕ) : Type 0 where
+  pub fit : Fit trace k t
+  pub ranks-are : ranks ≡ ranksAfter policy [] trace
+  pub looks : (i : ℕ) → i < length trace → LooksAhead policy (getD nexts i 0) (getD trace i 0) (drop (suc i) trace)
+
+pub record LookAhead (trace nexts near : List ℕ) : Type 0 where
   pub short : length trace ≤ references
   pub good : Below pages trace
   pub room : length nexts ≡ references
+  pub clear : near ≡ replicate pages 0

@@ -24,6 +24,6 @@ unfoldable pub always : Priority
 always a b = true
 
 -- a reference to the page whose entry is `old`, and is `new` from now on
-unfoldable pub put : Priority → ℕ → ℕ → List ℕ → List ℕ
-put above old new [] = new ∷ []
-put above old new (y ∷ l) = new ∷ cond (eqb y old) l (carry above old y l)
+unfoldable pub placeEntry : Priority → ℕ → ℕ → List ℕ → List ℕ
+placeEntry above old new [] = new ∷ []
+placeEntry above old new (y ∷ l) = new ∷ cond (eqb y old) l (carry above old y l)

@@ -1,4 +1,4 @@
--- Entries stand in the order of their pages' priority, and a reference to a page is a `put` of its entry.
+-- Entries stand in the order of their pages' priority, and a reference to a page is a `placeEntry` of its entry.
 use Prim.Native.Nat.{ℕ, zero, suc, _+_, _*_, _-_, _≤_, _<_}
 use native.Mathlib.Omega.{arith}
 use mathlib.Core.Bool.{Bool, true, false, cond}
@@ -10,7 +10,7 @@ use Rattle.rules.specs.Lists.{holds, times}
 use Rattle.theory.specs.Priority.{Priority, Policy, higher, lower}
 use Rattle.theory.specs.Policy.{byMore, smaller}
 use Rattle.theory.specs.OnePass.{carry, place}
-use Rattle.kept.specs.Entries.{entry, pageOf, larger, put}
+use Rattle.kept.specs.Entries.{entry, pageOf, larger, placeEntry}
 use Rattle.theory.specs.Bags.{holds-times}
 use Rattle.kept.specs.Below.{Below}
 use Rattle.rules.specs.Cases.{by-cases, clash}
@@ -88,11 +88,11 @@ entries-same rank rank′ x agree (z ∷ l) h =
     by-cases (eqb z x) (λ e. clash refl (rw e at h))
     (λ e. rw (agree z (eqb-false z x e), entries-same rank rank′ x agree l (rw e at h)))
 
--- a reference to x, whose rank changes, is a `put` of its entry
+-- a reference to x, whose rank changes, is a `placeEntry` of its entry
 pub place-entries : (rank rank′ : ℕ → ℕ) (shown : Priority) (x : ℕ) → ((p : ℕ) → (p ≡ x → ⊥) → rank′ p ≡ rank p) → (l : List ℕ)
     → x < 65536 → Below 65536 l → times x l ≤ 1
-    → map (entry rank′) (place (through rank shown) x l) ≡ put shown (entry rank x) (entry rank′ x) (map (entry rank) l)
-unfolding place put times
+    → map (entry rank′) (place (through rank shown) x l) ≡ placeEntry shown (entry rank x) (entry rank′ x) (map (entry rank) l)
+unfolding place placeEntry times
 place-entries rank rank′ shown x agree [] hx hl once = refl
 place-entries rank rank′ shown x agree (y ∷ l) hx hl once =
     rw (entry-same rank y x (hl .0) hx)

@@ -10,15 +10,12 @@ use lib.Seq.{take-all}
 use Rattle.rules.specs.Lists.{times}
 use Rattle.theory.specs.Priority.{Priority, Policy}
 use Rattle.theory.specs.OnePass.{place, step, listAfter, depthFrom}
-use Rattle.kept.specs.Entries.{entry, put}
+use Rattle.kept.specs.Entries.{entry, placeEntry}
+use Rattle.kept.specs.Rankings.{Ranking}
 use Rattle.kept.specs.EntryLaws.{through, place-entries, entry-same}
 use Rattle.kept.specs.Below.{Below, list-below}
 use Rattle.theory.specs.Theorem.{Orders, no-page-twice, at-most}
 use Rattle.rules.specs.Cases.{by-cases}
-
--- a rank for each page at each moment
-abbrev pub Ranking : Type 0
-Ranking = List ℕ → List ℕ → ℕ → ℕ
 
 unfoldable pub kept : Ranking → Policy → ℕ → List ℕ → List ℕ → List ℕ
 kept ranking policy k past to = map (entry (ranking past to)) (listAfter policy k past to)
@@ -45,7 +42,7 @@ module _ (policy : Policy) (ranking : Ranking) (shown : Priority) (keeps : Keeps
 
   pub kept-step : (x : ℕ) (past to : List ℕ) → x < 65536 → Below 65536 past
       → kept ranking policy k (x ∷ past) to
-      ≡ take k (put shown (entry (ranking past (x ∷ to)) x) (entry (ranking (x ∷ past) to) x) (kept ranking policy k past (x ∷ to)))
+      ≡ take k (placeEntry shown (entry (ranking past (x ∷ to)) x) (entry (ranking (x ∷ past) to) x) (kept ranking policy k past (x ∷ to)))
   unfolding kept listAfter step
   kept-step x past to hx hp =
       rw (

@@ -6,26 +6,19 @@ use mathlib.Core.Path.{_≡_, refl, sym, _∙_, ap}
 use mathlib.Core.List.{List, [], _∷_}
 use lib.Dec.{eqb}
 use borrow.Author.Tests.{eqb-false, ne-eqb}
+use Rattle.rules.specs.Limits as limits
 use Rattle.rules.specs.Lists.{times}
 use Rattle.theory.specs.Priority.{Priority, Policy}
-use Rattle.theory.specs.Policy.{byMore, smaller, nearness, lru, lfu, opt}
+use Rattle.theory.specs.Policy.{byMore, smaller, nearness, lru, lfu, opt, policyOf}
 use Rattle.theory.specs.OnePass.{place, listAfter}
 use Rattle.theory.specs.Order.{lru-order, lfu-order, opt-order}
 use Rattle.kept.specs.Entries.{entry, larger, always}
 use Rattle.kept.specs.EntryLaws.{through, entry-above, carry-same}
 use Rattle.kept.specs.Below.{Below, list-below}
 use Rattle.kept.specs.Recency.{place-shift, list-sorted, nearness-other}
-use Rattle.kept.specs.Kept.{Ranking, Keeps}
+use Rattle.kept.specs.Rankings.{Ranking, unranked, frequency, sooner, rankingOf, shownOf}
+use Rattle.kept.specs.Kept.{Keeps}
 use Rattle.rules.specs.Cases.{by-cases}
-
-unfoldable pub unranked : Ranking
-unranked past to p = 0
-
-unfoldable pub frequency : Ranking
-frequency past to p = times p past
-
-unfoldable pub sooner : Ranking
-sooner past to p = nearness p to
 
 place-same : (above above′ : Priority) (x : ℕ)
     → ((y z : ℕ) → (y ≡ x → ⊥) → (z ≡ x → ⊥) → y < 65536 → z < 65536 → above y z ≡ above′ y z)
@@ -75,3 +68,10 @@ keeps-opt =
           (sym (nearness-other y x to ny)) (sym (nearness-other z x to nz)) ∙ entry-above (λ p. nearness p (x ∷ to)) y z hy hz)
           (listAfter opt k past (x ∷ to)) (list-below 65536 opt k past (x ∷ to) hp);
     }
+
+-- the list of every policy can be kept
+pub keeps : (policy : ℕ) → Keeps (policyOf policy) (rankingOf policy) (shownOf policy)
+unfolding policyOf rankingOf shownOf
+keeps policy =
+    by-cases (eqb policy limits.lru) (λ e. rw e keeps-lru)
+    (λ e. by-cases (eqb policy limits.lfu) (λ d. rw (e, d) keeps-lfu) (λ d. rw (e, d) keeps-opt))

@@ -1,12 +1,17 @@
--- How code keeps the list and its counts. Definitions:
-pub mod Below
+-- How code keeps a list and its counts.
+--
+-- What a reader must believe, since promises about memory cite it:
 pub mod Entries
+pub mod Rankings
 pub mod Kept
 pub mod Tally
 pub mod Frequencies
 pub mod Nexts
+pub mod Memory
 -- Laws:
+pub mod Below
 pub mod EntryLaws
 pub mod Recency
 pub mod KeptPolicies
 pub mod PastOnly
+pub mod MemoryLaws

@@ -1,12 +1,11 @@
 -- A session's history: the pages that it was given, latest first, refused ones included (rules S1 to S3, O3, O4).
-use Prim.Native.Nat.{ℕ, _+_}
-use mathlib.Core.Bool.{Bool, cond, not, _||_, _&&_}
-use mathlib.Core.Path.{_≡_}
+use Prim.Native.Nat.{ℕ}
+use mathlib.Core.Bool.{not, _&&_}
 use mathlib.Core.List.{List, [], _∷_}
-use lib.Dec.{leb, ltb}
+use lib.Dec.{leb}
 use lib.ListN.{length}
-use Rattle.rules.specs.Limits.{references, pages, capacities, isCapacity, opt}
-use Rattle.rules.specs.Refusals.{badPolicy, badLimit, sessionFull, badPage, badCapacity, refuseIf}
+use Rattle.rules.specs.Limits.{references, pages, isCapacity, opt}
+use Rattle.rules.specs.Refusals.{badPolicy, badLimit, sessionFull, badPage, badCapacity, refuseIf, whenAccepted}
 use Rattle.rules.specs.declared.Answer.{Answer}
 use Rattle.rules.specs.declared.Answer.the-variants.{Accepted}
 use Rattle.theory.specs.Policy.{policyOf}
@@ -31,15 +30,15 @@ referenceAnswer accepted page =
 unfoldable pub acceptedOf : List ℕ → List ℕ
 acceptedOf [] = []
 acceptedOf (page ∷ calls) =
-    cond (leb references (length (acceptedOf calls)) || leb pages page) (acceptedOf calls) (page ∷ acceptedOf calls)
-
--- S3: the depth that an accepted reference answers
-abbrev pub depthOf : ℕ → ℕ → List ℕ → ℕ → ℕ
-depthOf policy k calls page = depth page (listAfter (policyOf policy) k (acceptedOf calls) [])
+    whenAccepted (referenceAnswer (acceptedOf calls) page) (page ∷ acceptedOf calls) (acceptedOf calls)
 
 -- S2: the list, and the hits and misses at a capacity, after the calls
 abbrev pub listNow : ℕ → ℕ → List ℕ → List ℕ
 listNow policy k calls = listAfter (policyOf policy) k (acceptedOf calls) []
+
+-- S3: the depth that an accepted reference answers
+abbrev pub depthOf : ℕ → ℕ → List ℕ → ℕ → ℕ
+depthOf policy k calls page = depth page (listNow policy k calls)
 
 abbrev pub hitsNow : ℕ → ℕ → List ℕ → ℕ
 hitsNow policy c calls = hitsAfter (policyOf policy) c (acceptedOf calls) []

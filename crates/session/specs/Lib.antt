@@ -1,15 +1,16 @@
--- Sessions: the definitions that the promises cite,
+-- Sessions.
+--
+-- What a reader must believe: histories, what the memory holds after one, and what each call answers.
 pub mod History
 pub mod Memory
 pub mod Answers
 pub mod Reads
-pub mod Touch
-pub mod StartLaws
-pub mod TouchLaws
-pub mod SessionPolicies
+-- What the promises give their users, and whoever drives a session:
+pub mod Promises
+pub mod Driving
+-- Laws: which references are accepted, the session over a reference, the promises answer by answer.
 pub mod ReferLaws
 pub mod SessionLaws
+pub mod StartLaws
 pub mod ReferAnswers
 pub mod ReadLaws
-pub mod Driving
-pub mod Promises

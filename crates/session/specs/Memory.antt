@@ -1,27 +1,13 @@
--- What a session's value and its three tables hold after a history: all of it, place by place.
-use Prim.Native.Nat.{ℕ, _-_}
-use mathlib.Core.Bool.{Bool, cond}
+-- What a session's value and its three tables hold after a history: all of it, place by place. The tables are those of a run over
+-- the references accepted, with nothing still to come.
+use Prim.Native.Nat.{ℕ}
 use mathlib.Core.Path.{_≡_}
-use mathlib.Core.List.{List, [], _∷_, _++_}
-use lib.Dec.{eqb}
-use lib.ListN.{length, replicate}
-use Rattle.rules.specs.Limits.{capacities, pages, lru}
+use mathlib.Core.List.{List, []}
+use lib.ListN.{length}
 use Rattle.rules.specs.declared.Answer.the-variants.{Accepted}
-use Rattle.theory.specs.Policy.{policyOf}
-use Rattle.theory.specs.OnePass.{listAfter}
-use Rattle.kept.specs.Kept.{Ranking, kept}
-use Rattle.kept.specs.KeptPolicies.{unranked, frequency}
-use Rattle.kept.specs.Tally.{tally}
-use Rattle.kept.specs.Frequencies.{frequencies}
+use Rattle.kept.specs.Memory.{placesAfter, depthsAfter, ranksAfter}
 use Rattle.session.specs.declared.Session.{Session}
 use Rattle.session.specs.History.{startAnswer, acceptedOf, listNow}
-
--- LRU keeps no ranks, LFU the counts
-unfoldable pub rankingOf : ℕ → Ranking
-rankingOf policy = cond (eqb policy lru) unranked frequency
-
-abbrev pub entriesNow : ℕ → ℕ → List ℕ → List ℕ
-entriesNow policy k calls = kept (rankingOf policy) (policyOf policy) k (acceptedOf calls) []
 
 -- the small value
 pub record Value (policy k : ℕ) (calls : List ℕ) (s : Session) : Type 0 where
@@ -33,15 +19,15 @@ pub record Value (policy k : ℕ) (calls : List ℕ) (s : Session) : Type 0 wher
 
 -- the list's entries, and 0 behind them
 pub record Places (policy k : ℕ) (calls places : List ℕ) : Type 0 where
-  pub places-are : places ≡ entriesNow policy k calls ++ replicate (capacities - length (entriesNow policy k calls)) 0
+  pub places-are : places ≡ placesAfter policy k (acceptedOf calls) []
 
 -- how often each depth came
 pub record Depths (policy k : ℕ) (calls depths : List ℕ) : Type 0 where
-  pub depths-are : depths ≡ tally (policyOf policy) k (acceptedOf calls) []
+  pub depths-are : depths ≡ depthsAfter policy k (acceptedOf calls) []
 
 -- how often each page was referenced; LRU does not count
 pub record Counts (policy : ℕ) (calls counts : List ℕ) : Type 0 where
-  pub counts-are : counts ≡ cond (eqb policy lru) (replicate pages 0) (frequencies (acceptedOf calls))
+  pub counts-are : counts ≡ ranksAfter policy (acceptedOf calls) []
 
 -- the session and its tables are those that a start with policy and k and these calls give
 pub record Gives (policy k : ℕ) (calls : List ℕ) (s : Session) (places depths counts : List ℕ) : Type 0 where

@@ -17,19 +17,16 @@ use Rattle.theory.specs.Plain.{hitsAfter, missesAfter}
 use Rattle.theory.specs.OnePass.{listAfter}
 use Rattle.theory.specs.Order.{policy-order}
 use Rattle.theory.specs.Theorem.{hits-by-depth, hits-and-misses, at-most}
-use Rattle.kept.specs.Below.{below-mono, list-below}
-use Rattle.kept.specs.Entries.{pageOf}
-use Rattle.kept.specs.EntryLaws.{pages-of}
-use Rattle.kept.specs.Kept.{kept}
-use Rattle.kept.specs.Tally.{tally, upTo, tally-hits}
-use Rattle.step.specs.Shown.{placesOf, shownPlaces, shown-all}
-use Rattle.step.specs.Running.{kept-length}
+use Rattle.kept.specs.Tally.{upTo, tally-hits}
+use Rattle.kept.specs.Memory.{lengthAfter, depthsAfter}
+use Rattle.step.specs.Shown.{shownPlaces}
+use Rattle.step.specs.RunLaws.{run-shown}
 use Rattle.session.specs.declared.Session.{Session}
 use Rattle.session.specs.declared.Listing.{Listing}
 use Rattle.session.specs.declared.Asked.{Asked}
 use Rattle.session.specs.declared.Asked.the-variants as asked
 use Rattle.session.specs.History.{acceptedOf, capacityAnswer, hitsNow, missesNow, listNow}
-use Rattle.session.specs.Memory.{Value, Places, Depths, Counting, rankingOf, entriesNow}
+use Rattle.session.specs.Memory.{Value, Places, Depths, Counting}
 use Rattle.session.specs.Reads.{ListRead, HitsRead, MissesRead, askedAs}
 use Rattle.session.specs.ReferLaws.{start-bounds, accepted-below}
 
@@ -46,6 +43,7 @@ answered k c n l h = rw (le-leb 1 c l, le-leb c k h)
 -- the sum of the depths is the hits of the plain cache
 sum-is-hits : {policy k : ℕ} {calls : List ℕ} {s : Session} {depths : List ℕ} → Value policy k calls s → Depths policy k calls depths
     → (c total : ℕ) → 1 ≤ c → c ≤ s .k → total ≡ upTo depths (min c capacities) → total ≡ hitsNow policy c calls
+unfolding depthsAfter
 sum-is-hits {policy} {k} {calls} {s} {depths} v d c total l h t =
     let b = start-bounds policy k (v .started) in
     let most : min c capacities ≡ c = omega (arith, v .k-is, b .high) in
@@ -98,42 +96,13 @@ module _ {s : Session} {depths : List ℕ} {c : ℕ} where
               rw rest (answered k c (missesNow policy c calls) l (omega (arith, v .k-is)));
         }
 
--- the entries in use, and 0 behind them, show the list
-module _ {policy k : ℕ} {calls : List ℕ} {s : Session} {places : List ℕ} (v : Value policy k calls s) (p : Places policy k calls places) where
-  abbrev entries : List ℕ
-  entries = entriesNow policy k calls
-
-  long : length entries ≡ s .length
-  long = kept-length (rankingOf policy) (policyOf policy) k (acceptedOf calls) [] ∙ sym (v .length-is)
-
-  few : s .length ≤ capacities
-  few =
-      omega (
-        arith,
-        v .length-is,
-        at-most (policyOf policy) (policy-order policy) k (acceptedOf calls) [],
-        start-bounds policy k (v .started) .high,
-      )
-
-  room : length places ≡ capacities
-  room =
-      rw (
-        p .places-are,
-        length-append entries (replicate (capacities - length entries) 0),
-        length-replicate {A = ℕ} (capacities - length entries) 0,
-      ) (omega (arith, long, few))
-
-  pages-are : map pageOf (take (s .length) places) ≡ listNow policy k calls
-  unfolding kept
-  pages-are =
-      rw (p .places-are, take-at entries (replicate (capacities - length entries) 0) (s .length) long)
-      (pages-of (rankingOf policy (acceptedOf calls) []) (listNow policy k calls)
-      (list-below 65536 (policyOf policy) k (acceptedOf calls) [] (below-mono pages 65536 (acceptedOf calls) (omega arith) (accepted-below calls))))
-
-  pub all-shown : shownPlaces (s .length) places ≡ placesOf (listNow policy k calls)
-  all-shown = shown-all (s .length) places few room ∙ ap placesOf pages-are
-
 pub list-read : {s : Session} {places : List ℕ} {shown : List Page} → shown ≡ shownPlaces (s .length) places
     → ListRead s places (record { length = s .length; places = shown })
+unfolding lengthAfter
 list-read e =
-    record { length-is = λ policy k calls v p. v .length-is; places-are = λ policy k calls v p. e ∙ all-shown v p }
+    record {
+      length-is = λ policy k calls v p. v .length-is;
+      places-are =
+          λ policy k calls v p.
+          run-shown policy k (acceptedOf calls) [] (start-bounds policy k (v .started) .high) (accepted-below calls) (v .length-is) (p .places-are) e;
+    }

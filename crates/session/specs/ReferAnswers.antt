@@ -1,24 +1,21 @@
 -- A reference's promise, answer by answer.
-use Prim.Native.Nat.{ℕ, _+_, _≤_, _<_}
+use Prim.Native.Nat.{ℕ, _≤_, _<_}
 use native.Mathlib.Omega.{arith}
-use mathlib.Core.Path.{_≡_, refl, sym, _∙_, ap}
-use mathlib.Core.List.{List, [], _∷_}
-use lib.ListN.{length, getD, set}
+use mathlib.Core.Path.{_≡_}
+use mathlib.Core.List.{List, _∷_}
+use lib.ListN.{length}
 use borrow.Author.Tests.{le-leb, lt-leb}
-use Rattle.rules.specs.Limits.{capacities, references, pages}
+use Rattle.rules.specs.Limits.{references, pages}
 use Rattle.rules.specs.Refusals.{sessionFull, badPage}
 use Rattle.step.specs.declared.Step.{Step}
-use Rattle.step.specs.Running.{depth-inside, counted-few}
+use Rattle.step.specs.Referred.{Referred}
 use Rattle.session.specs.declared.Session.{Session}
-use Rattle.session.specs.declared.Referenced.{Referenced}
-use Rattle.session.specs.declared.Depth.{Depth}
 use Rattle.session.specs.declared.Depth.the-variants as answers
 use Rattle.session.specs.History.{acceptedOf}
-use Rattle.session.specs.Memory.{Gives, Alive}
+use Rattle.session.specs.Memory.{Gives}
 use Rattle.session.specs.Answers.{Referring}
-use Rattle.session.specs.Touch.{Touched, Touchable}
-use Rattle.session.specs.ReferLaws.{accepted-full, accepted-bad, accepted-few}
-use Rattle.session.specs.SessionLaws.{advanced, touchable, running, refer-depth, refer-gives}
+use Rattle.session.specs.ReferLaws.{accepted-full, accepted-bad}
+use Rattle.session.specs.SessionLaws.{advanced, refer-depth, refer-gives}
 
 -- a refused reference is not part of the history: the same session stands, with one call more
 same-gives : {policy k : ℕ} {calls : List ℕ} {s : Session} {places depths counts : List ℕ} (page : ℕ) → acceptedOf (page ∷ calls) ≡ acceptedOf calls
@@ -58,33 +55,21 @@ module _ {s : Session} {page : ℕ} {places depths counts : List ℕ} where
         next = λ policy k calls g. same-gives page (accepted-bad calls page (omega (arith, g .value .references-are)) p) g;
       }
 
-  module _ (room : s .references < references) (fine : page < pages) where
-    pub refer-touchable : Alive s places depths counts → Touchable page counts
-    refer-touchable a = touchable (a .gives) page fine
-
-    module _ {places′ counts′ : List ℕ} {step : Step} (touched : Touched (s .policy) page (s .length) (s .k) places counts places′ counts′ step) where
-      at-policy : {policy k : ℕ} {calls : List ℕ} → Gives policy k calls s places depths counts
-          → Touched policy page (s .length) k places counts places′ counts′ step
-      at-policy g = rw (g .value .policy-is, g .value .k-is) at touched
-
-      pub refer-done : Referring s page places depths counts places′ (set depths (step .depth) (getD depths (step .depth) 0 + 1)) counts′
-          (record { depth = answers.Accepted (step .depth); session = advanced s step })
-      refer-done =
-          record {
-            answer =
-                λ policy k calls g. rw (
-                  lt-leb references (length (acceptedOf calls)) (omega (arith, g .value .references-are)),
-                  lt-leb pages page fine,
-                  refer-depth g page room fine (at-policy g),
-                );
-            next = λ policy k calls g. refer-gives g page room fine (at-policy g);
-          }
-
-      -- the depth has its place in the table, and one more fits there
-      pub refer-inside : Alive s places depths counts → step .depth ≤ capacities
-      refer-inside a =
-          let t = at-policy (a .gives) in
-          depth-inside (running (a .gives) page) (t .stepped)
-
-    pub refer-counted : Alive s places depths counts → (d : ℕ) → getD depths d 0 ≤ references
-    refer-counted a d = omega (arith, counted-few (running (a .gives) page) d, accepted-few (a .calls))
+  pub refer-done : s .references < references → page < pages → {places′ depths′ counts′ : List ℕ} {step : Step}
+      → Referred (s .policy) page 0 (s .length) (s .k) places depths counts places′ depths′ counts′ step
+      → Referring s page places depths counts places′ depths′ counts′
+      (record { depth = answers.Accepted (step .depth); session = advanced s step })
+  refer-done room fine {places′} {depths′} {counts′} {step} done =
+      record {
+        answer =
+            λ policy k calls g. rw (
+              lt-leb references (length (acceptedOf calls)) (omega (arith, g .value .references-are)),
+              lt-leb pages page fine,
+              refer-depth g page room fine (by-value g),
+            );
+        next = λ policy k calls g. refer-gives g page room fine (by-value g);
+      }
+    where
+      by-value : {policy k : ℕ} {calls : List ℕ} → Gives policy k calls s places depths counts
+          → Referred policy page 0 (s .length) k places depths counts places′ depths′ counts′ step
+      by-value g = rw (g .value .policy-is, g .value .k-is) at done

@@ -1,26 +1,18 @@
--- A reference's promise, answer by answer: the law that takes a session over a reference.
-use Prim.Native.Nat.{ℕ, zero, suc, _+_, _-_, _≤_, _<_}
+-- What an accepted start says, and which references are accepted: as many as the limit allows, and pages only.
+use Prim.Native.Nat.{ℕ, _≤_, _<_}
 use native.Mathlib.Omega.{arith}
-use native.Mathlib.Numerals.{add-one}
-use mathlib.Core.Bool.{Bool, true, false, cond, not, _||_, _&&_}
-use mathlib.Core.Path.{_≡_, refl, sym, _∙_, ap}
-use mathlib.Core.List.{List, [], _∷_, _++_}
-use lib.Dec.{eqb, leb, ltb}
-use lib.ListN.{length, take, drop, getD, set, replicate, length-append, length-replicate}
-use lib.Seq.{take-at, drop-append-add}
+use mathlib.Core.Bool.{true, false}
+use mathlib.Core.Path.{_≡_, refl}
+use mathlib.Core.List.{List, [], _∷_}
+use lib.Dec.{leb}
+use lib.ListN.{length}
 use borrow.Author.Tests.{le-leb, lt-leb, leb-true, leb-false}
-use Rattle.rules.specs.Limits.{capacities, references, pages, lru, opt, isCapacity}
-use Rattle.rules.specs.Refusals.{refusal, refuseIf, sessionFull, badPage, badPolicy, badLimit}
+use Rattle.rules.specs.Limits.{capacities, references, pages, opt}
 use Rattle.rules.specs.Cases.{by-cases}
 use Rattle.rules.specs.AnswerLaws.{not-accepted}
-use Rattle.rules.specs.declared.Answer.{Answer}
 use Rattle.rules.specs.declared.Answer.the-variants.{Accepted}
-use Rattle.theory.specs.Policy.{policyOf}
-use Rattle.theory.specs.OnePass.{listAfter, depth}
-use Rattle.theory.specs.Theorem.{at-most}
 use Rattle.kept.specs.Below.{Below}
-use Rattle.session.specs.History.{startAnswer, acceptedOf, referenceAnswer, listNow}
-use Rattle.session.specs.Memory.{Gives, Value, rankingOf, entriesNow}
+use Rattle.session.specs.History.{startAnswer, acceptedOf}
 
 -- what an accepted start says of its policy and its limit
 pub record Bounds (policy k : ℕ) : Type 0 where
@@ -73,3 +65,11 @@ accepted-few [] = omega arith
 accepted-few (page ∷ calls) =
     three-ways calls page (λ h. rw (accepted-full calls page h) (accepted-few calls))
     (λ h p. rw (accepted-bad calls page h p) (accepted-few calls)) (λ h p. rw (accepted-next calls page h p) (omega arith))
+
+-- no more pages than the limit, and pages only: all of them are accepted
+pub accepted-all : (calls : List ℕ) → Below pages calls → length calls ≤ references → acceptedOf calls ≡ calls
+unfolding acceptedOf
+accepted-all [] good few = refl
+accepted-all (page ∷ calls) good few =
+    let rest : acceptedOf calls ≡ calls = accepted-all calls (good .1) (omega arith) in
+    rw (accepted-next calls page (rw rest (omega arith)) (good .0), rest)

@@ -6,7 +6,6 @@ ghost use Rattle.session.specs.Answers.{Starting, Referring};
 ghost use Rattle.session.specs.Memory.{Alive};
 
 mod reads;
-mod touch;
 
 pub use reads::hits;
 pub use reads::list;
@@ -130,9 +129,7 @@ pub fn refer(
             session: s,
         };
     }
-    let step = touch::touch(s.policy, p, s.length, s.k, places, counts);
-    let d = step.depth;
-    depths[d] = depths[d] + 1;
+    let step = step::refer(s.policy, p, 0, s.length, s.k, places, depths, counts);
     let next = Session {
         policy: s.policy,
         k: s.k,
@@ -140,7 +137,7 @@ pub fn refer(
         references: s.references + 1,
     };
     Referenced {
-        depth: Depth::Accepted(d),
+        depth: Depth::Accepted(step.depth),
         session: next,
     }
 }

@@ -12,26 +12,26 @@ use borrow.Author.Tests.{eq-eqb, ne-eqb, eqb-true}
 use borrow.Rule.Slice.PartMut.{putMid, midOf, postOf}
 use Rattle.theory.specs.Priority.{Priority, higher, lower}
 use Rattle.theory.specs.OnePass.{carry, depth, depthFrom}
-use Rattle.kept.specs.Entries.{put, always}
-use Rattle.step.specs.PutLaws.{depth-zero, depth-later, carry-length}
+use Rattle.kept.specs.Entries.{placeEntry, always}
+use Rattle.step.specs.EntryLengths.{depth-zero, depth-later, carry-length}
 use Rattle.theory.specs.Depth.{depth-most}
 use Rattle.rules.specs.Cases.{by-cases}
 use Rattle.step.specs.declared.Carried.{Carried}
 use Rattle.step.specs.Stepped.{Carrying, Placed}
 
 -- under LRU carrying begins with the entry itself, from place 1 on
-carry-put : (entry : ℕ) (l : List ℕ) → carry always entry entry l ≡ put always entry entry l
-unfolding carry put always
-carry-put entry [] = refl
-carry-put entry (y ∷ l) = by-cases (eqb y entry) (λ e. rw e) (λ e. rw e)
+carry-placeEntry : (entry : ℕ) (l : List ℕ) → carry always entry entry l ≡ placeEntry always entry entry l
+unfolding carry placeEntry always
+carry-placeEntry entry [] = refl
+carry-placeEntry entry (y ∷ l) = by-cases (eqb y entry) (λ e. rw e) (λ e. rw e)
 
 pub shift-places : {entry : ℕ} {before after : List ℕ} {r : Carried} → Carrying always entry entry before after r
     → Placed always entry entry before after r
 shift-places {entry} {before} h =
     record {
-      places = rw (← carry-put entry before) (h .places);
+      places = rw (← carry-placeEntry entry before) (h .places);
       depth-is = h .depth-is;
-      last-is = rw (← carry-put entry before) (h .last-is);
+      last-is = rw (← carry-placeEntry entry before) (h .last-is);
     }
 
 -- a depth is no more than there are places
@@ -50,13 +50,13 @@ part-is y l = rw (all-but-first y l, take-length l)
 
 module _ {above : Priority} {old new : ℕ} where
   pub place-empty : {l : List ℕ} → length l ≡ 0 → Placed above old new l l (record { depth = 0; last = new })
-  unfolding put depthFrom
+  unfolding placeEntry depthFrom
   place-empty {l = []} h = record { places = refl; depth-is = refl; last-is = refl }
   place-empty {l = y ∷ l} h = absurd (omega arith)
 
   pub place-first : {l : List ℕ} → 0 < length l → getD l 0 0 ≡ old
       → Placed above old new l (set l 0 new) (record { depth = 1; last = 0 })
-  unfolding put depthFrom
+  unfolding placeEntry depthFrom
   place-first {l = []} h e = absurd (omega arith)
   place-first {l = y ∷ l} h e =
       record {
@@ -69,7 +69,7 @@ module _ {above : Priority} {old new : ℕ} where
   pub place-missing : {l after : List ℕ} {r : Carried} → 0 < length l → (getD l 0 0 ≡ old → ⊥)
       → Carrying above old (getD l 0 0) (midOf 1 (length l - 1) l) after r → r .depth ≡ 0
       → Placed above old new l (set (putMid 1 (length l - 1) l after) 0 new) (record { depth = 0; last = r .last })
-  unfolding put depthFrom
+  unfolding placeEntry depthFrom
   place-missing {l = []} h n w d = absurd (omega arith)
   place-missing {l = y ∷ l} {after} {r} h n w d =
       let v : Carrying above old y l after r = rw (part-is y l) at w in
@@ -83,7 +83,7 @@ module _ {above : Priority} {old new : ℕ} where
   pub place-found : {l after : List ℕ} {r : Carried} → 0 < length l → (getD l 0 0 ≡ old → ⊥)
       → Carrying above old (getD l 0 0) (midOf 1 (length l - 1) l) after r → (r .depth ≡ 0 → ⊥)
       → Placed above old new l (set (putMid 1 (length l - 1) l after) 0 new) (record { depth = r .depth + 1; last = 0 })
-  unfolding put depthFrom
+  unfolding placeEntry depthFrom
   place-found {l = []} h n w d = absurd (omega arith)
   place-found {l = y ∷ l} {after} {r} h n w d =
       let v : Carrying above old y l after r = rw (part-is y l) at w in

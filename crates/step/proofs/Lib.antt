@@ -1,3 +1,4 @@
+pub mod ListedLaws
 pub mod Walk
 pub mod FirstPlace
 pub mod Settling

@@ -12,11 +12,11 @@ use borrow.Author.Tests.{eq-eqb, ne-eqb, eqb-true, eqb-false, lt-ltb, le-ltb, lt
 use Rattle.theory.specs.Priority.{Priority}
 use Rattle.theory.specs.OnePass.{depth}
 use Rattle.rules.specs.Cases.{by-cases}
-use Rattle.kept.specs.Entries.{put}
+use Rattle.kept.specs.Entries.{placeEntry}
 use Rattle.step.specs.declared.Carried.{Carried}
 use Rattle.step.specs.declared.Step.{Step}
 use Rattle.step.specs.Stepped.{Placed, Settled, Stepped, next, grows}
-use Rattle.step.specs.PutLaws.{put-length, put-longer}
+use Rattle.step.specs.EntryLengths.{placeEntry-length, placeEntry-longer}
 
 pub settle-grown : (used k : ℕ) (c : Carried) (l : List ℕ) → c .depth ≡ 0 → used < k → used < length l
     → Settled used k c l (set l used (c .last)) (record { depth = c .depth; length = used + 1 })
@@ -39,12 +39,12 @@ take-in-use n l =
     more : length l < n → take (min n (length l)) l ≡ take n l
     more h = take-all (min n (length l)) l (omega arith) ∙ sym (take-all n l (omega arith))
 
--- The part in use came back as `places`; P is the whole list with the new entry put.
+-- The part in use came back as `places`; P is the whole list with the new entry placed.
 module _ (above : Priority) (k old new n : ℕ) (before places after : List ℕ) (c : Carried) (r : Step) (used : ℕ)
     (u : used ≡ min n (length before)) (p : Placed above old new (take n before) places c)
     (s : Settled used k c (places ++ drop used before) after r) where
   abbrev P : List ℕ
-  P = put above old new (take n before)
+  P = placeEntry above old new (take n before)
 
   used-is : length (take n before) ≡ used
   used-is = length-take n before ∙ sym u
@@ -66,13 +66,13 @@ module _ (above : Priority) (k old new n : ℕ) (before places after : List ℕ)
   found : (c .depth ≡ 0 → ⊥) → Stepped above k old new n before after r
   unfolding next
   found d =
-      let long : length P ≡ used = put-length above old new (take n before) (λ q. d (p .depth-is ∙ q)) ∙ used-is in
+      let long : length P ≡ used = placeEntry-length above old new (take n before) (λ q. d (p .depth-is ∙ q)) ∙ used-is in
       kept (rw (ne-eqb (c .depth) 0 d)) (omega arith)
       (rw (take-all (max (length (take n before)) (min k (length before))) P (omega (arith, used-is)), take-all used P (omega arith)))
 
   module _ (d : c .depth ≡ 0) where
     longer : length P ≡ suc used
-    longer = put-longer above old new (take n before) (sym (p .depth-is) ∙ d) ∙ ap suc used-is
+    longer = placeEntry-longer above old new (take n before) (sym (p .depth-is) ∙ d) ∙ ap suc used-is
 
     long : length places ≡ used
     long = rw (places-are, length-take-le used P (omega (arith, longer)))

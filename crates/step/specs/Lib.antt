@@ -1,5 +1,11 @@
+-- The list step.
+--
+-- What a reader must believe: what a step, a reference and a shown list promise.
 pub mod Stepped
-pub mod Shifting
-pub mod PutLaws
-pub mod Running
+pub mod Referred
 pub mod Shown
+-- Laws: of one step, and of a run that is kept in memory, reference by reference.
+pub mod Shifting
+pub mod EntryLengths
+pub mod RankLaws
+pub mod RunLaws

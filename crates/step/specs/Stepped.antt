@@ -7,7 +7,7 @@ use lib.Dec.{ltb, eqb}
 use lib.ListN.{length, take, drop, getD, set}
 use Rattle.theory.specs.Priority.{Priority}
 use Rattle.theory.specs.OnePass.{carry, depth}
-use Rattle.kept.specs.Entries.{put}
+use Rattle.kept.specs.Entries.{placeEntry}
 use Rattle.step.specs.declared.Carried.{Carried}
 use Rattle.step.specs.declared.Step.{Step}
 
@@ -15,7 +15,7 @@ use Rattle.step.specs.declared.Step.{Step}
 -- memory, grown by what is left over if the limit k and the memory have room for it.
 unfoldable pub next : Priority → ℕ → ℕ → ℕ → ℕ → List ℕ → List ℕ
 next above k old new n memory =
-    take (max (length (take n memory)) (min k (length memory))) (put above old new (take n memory))
+    take (max (length (take n memory)) (min k (length memory))) (placeEntry above old new (take n memory))
 
 pub record Stepped (above : Priority) (k old new n : ℕ) (before after : List ℕ) (r : Step) : Type 0 where
   pub places : after ≡ next above k old new n before ++ drop (length (next above k old new n before)) before
@@ -30,9 +30,9 @@ pub record Carrying (above : Priority) (old first : ℕ) (before after : List �
 
 -- a reference to a list: as many places as there were, and what does not fit them
 pub record Placed (above : Priority) (old new : ℕ) (before after : List ℕ) (r : Carried) : Type 0 where
-  pub places : after ≡ take (length before) (put above old new before)
+  pub places : after ≡ take (length before) (placeEntry above old new before)
   pub depth-is : r .depth ≡ depth old before
-  pub last-is : r .last ≡ getD (put above old new before) (length before) 0
+  pub last-is : r .last ≡ getD (placeEntry above old new before) (length before) 0
 
 -- what is left over is put behind the `used` places, if it is missed and there is room
 abbrev pub grows : ℕ → ℕ → Carried → List ℕ → Bool

@@ -1,33 +1,48 @@
--- The policy's number picks the run.
-use borrow.Author.Tests.{eq-eqb, ne-eqb}
+-- LRU and LFU start with no rank; OPT with what one pass from the trace's end found.
+use Prim.Native.Nat.{ℕ}
+use native.Mathlib.Omega.{arith}
+use mathlib.Core.Path.{refl, sym}
+use lib.ListN.{length-replicate, replicate}
 use borrow.Author.Needs.{needs}
-use Rattle.rules.specs.Limits.{lru, lfu}
-use Rattle.theory.specs.Policy.{policyOf}
+use Rattle.rules.specs.Limits.{references}
+use Rattle.count.specs.OptLaws.{back-followable, ahead-followable, ahead-length}
 use Rattle.count.proofs.runs.run_policy.Statement.{statement}
 use Rattle.count.proofs.runs.run_policy.Tie as tie
 
-run-lru-requires : tie.Need-run-lru-requires
-run-lru-requires c κs = search needs
+slice-aggregate-follow : tie.Need-slice-aggregate-follow
+slice-aggregate-follow c = search needs
+
+follow-requires : tie.Need-follow-requires
+follow-requires c κs = back-followable (c .before .before .before .before .pre) (c .before .before .if1 .taken) refl
 
 returns : tie.Need-returns
-unfolding policyOf
-returns c = rw (eq-eqb (c .before .before .before .args .policy) lru (c .before .if1 .taken)) (c .run-lru .ensures)
+returns c = search needs
 
-run-lfu-requires : tie.Need-run-lfu-requires
-run-lfu-requires c κs = search needs
+look-ahead-requires : tie.Need-look-ahead-requires
+look-ahead-requires c κs = search needs
+
+slice-aggregate-follow-2 : tie.Need-slice-aggregate-follow-2
+slice-aggregate-follow-2 c =
+    let started = c .before .before .before .before .before .before in
+    sym (ahead-length (replicate references 0) (started .pre) (length-replicate {A = ℕ} references 0) (c .before .look-ahead .ensures .0))
+
+follow-requires-2 : tie.Need-follow-requires-2
+follow-requires-2 c κs =
+    let started = c .before .before .before .before .before .before .before in
+    ahead-followable (replicate references 0) (started .pre) (c .before .before .before .before .before .if1 .left)
+    (c .before .before .look-ahead .ensures)
 
 returns-2 : tie.Need-returns-2
-unfolding policyOf
-returns-2 c = rw (ne-eqb (c .before .before .before .before .args .policy) lru (c .before .before .if1 .left), eq-eqb (c .before .before .before .before .args .policy) lfu (c .before .if2 .taken)) (c .run-lfu .ensures)
-
-run-opt-requires : tie.Need-run-opt-requires
-run-opt-requires c κs = search needs
-
-returns-3 : tie.Need-returns-3
-unfolding policyOf
-returns-3 c = rw (ne-eqb (c .before .before .before .before .args .policy) lru (c .before .before .if1 .left), ne-eqb (c .before .before .before .before .args .policy) lfu (c .before .if2 .left)) (c .run-opt .ensures)
+returns-2 c = search needs
 
 pub run-policy-spec : {M : Type 1} → statement M
 run-policy-spec =
     tie.close
-    (tie.spec run-lru-requires returns run-lfu-requires returns-2 run-opt-requires returns-3)
+    (tie.spec
+    slice-aggregate-follow
+    follow-requires
+    returns
+    look-ahead-requires
+    slice-aggregate-follow-2
+    follow-requires-2
+    returns-2)

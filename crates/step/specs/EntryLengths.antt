@@ -1,4 +1,4 @@
--- Depths and lengths of a list with an entry carried or put: one entry more than before exactly where the old one is missed.
+-- Depths and lengths of a list with an entry carried or placed: one entry more than before exactly where the old one is missed.
 use Prim.Native.Nat.{ℕ, zero, suc, _+_, _≤_, min, max}
 use native.Mathlib.Omega.{arith}
 use mathlib.Core.Bool.{true, false, cond}
@@ -10,7 +10,7 @@ use borrow.Author.Tests.{eqb-true, eqb-false}
 use Rattle.rules.specs.Cases.{by-cases}
 use Rattle.theory.specs.Priority.{Priority, lower}
 use Rattle.theory.specs.OnePass.{carry, depth, depthFrom}
-use Rattle.kept.specs.Entries.{put}
+use Rattle.kept.specs.Entries.{placeEntry}
 use Rattle.step.specs.Stepped.{next}
 
 -- a page that is not there has depth 0, wherever counting starts
@@ -44,23 +44,23 @@ carry-longer above i old y (z ∷ l) h =
     by-cases (eqb z old) (λ e. absurd (omega (arith, rw e at h)))
     (λ e. rw (e, carry-longer above (suc i) old (lower above y z) l (rw e at h)))
 
-pub put-length : (above : Priority) (old new : ℕ) (l : List ℕ) → (depth old l ≡ 0 → ⊥) → length (put above old new l) ≡ length l
-unfolding depthFrom put
-put-length above old new [] h = absurd (h refl)
-put-length above old new (y ∷ l) h =
+pub placeEntry-length : (above : Priority) (old new : ℕ) (l : List ℕ) → (depth old l ≡ 0 → ⊥) → length (placeEntry above old new l) ≡ length l
+unfolding depthFrom placeEntry
+placeEntry-length above old new [] h = absurd (h refl)
+placeEntry-length above old new (y ∷ l) h =
     by-cases (eqb y old) (λ e. rw e) (λ e. rw (e, carry-length above 1 old y l (λ q. h (rw e q))))
 
-pub put-longer : (above : Priority) (old new : ℕ) (l : List ℕ) → depth old l ≡ 0 → length (put above old new l) ≡ suc (length l)
-unfolding depthFrom put
-put-longer above old new [] h = refl
-put-longer above old new (y ∷ l) h =
+pub placeEntry-longer : (above : Priority) (old new : ℕ) (l : List ℕ) → depth old l ≡ 0 → length (placeEntry above old new l) ≡ suc (length l)
+unfolding depthFrom placeEntry
+placeEntry-longer above old new [] h = refl
+placeEntry-longer above old new (y ∷ l) h =
     by-cases (eqb y old) (λ e. absurd (omega (arith, rw e at h))) (λ e. rw (e, carry-longer above 1 old y l (rw e at h)))
 
 -- a list never shrinks
 pub next-grows : (above : Priority) (k old new n : ℕ) (memory : List ℕ) → length (take n memory) ≤ length (next above k old new n memory)
 unfolding next
 next-grows above k old new n memory =
-    rw (length-take (max (length (take n memory)) (min k (length memory))) (put above old new (take n memory)))
+    rw (length-take (max (length (take n memory)) (min k (length memory))) (placeEntry above old new (take n memory)))
     (by-cases (eqb (depth old (take n memory)) 0)
-    (λ e. omega (arith, put-longer above old new (take n memory) (eqb-true (depth old (take n memory)) 0 e)))
-    (λ e. omega (arith, put-length above old new (take n memory) (eqb-false (depth old (take n memory)) 0 e))))
+    (λ e. omega (arith, placeEntry-longer above old new (take n memory) (eqb-true (depth old (take n memory)) 0 e)))
+    (λ e. omega (arith, placeEntry-length above old new (take n memory) (eqb-false (depth old (take n memory)) 0 e))))
