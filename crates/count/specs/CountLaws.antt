@@ -11,18 +11,19 @@ use borrow.Author.Tests.{lt-ltb, le-ltb, leb-false}
 use Rattle.rules.specs.Limits.{pages, references, capacities}
 use Rattle.rules.specs.Refusals.{refusal, refuseIf, shortTable, badPage, pastTheTrace, firstBadPage, whenAccepted}
 use Rattle.rules.specs.FirstBad.{firstBad, first-bad-found, first-bad-none}
+use Rattle.rules.specs.Lists.{valuesFrom}
 use Rattle.rules.specs.Cases.{by-cases}
 use Rattle.rules.specs.declared.Answer.{Answer}
 use Rattle.rules.specs.declared.Answer.the-variants.{Accepted}
 use Rattle.theory.specs.Policy.{policyOf}
 use Rattle.kept.specs.Below.{Below}
-use Rattle.kept.specs.Tally.{tally}
+use Rattle.kept.specs.Tally.{tally, upTo}
 use Rattle.kept.specs.Memory.{depthsAfter}
 use Rattle.count.specs.declared.runs.Run.{Run}
 use Rattle.count.specs.Count.{countAnswer, countTable, withinLimits, Counted}
 use Rattle.count.specs.Checks.{limitsNumber, limits-refused, limits-passed, limits-within}
 use Rattle.count.specs.Runs.{Fit, Ran}
-use Rattle.count.specs.Table.{Fillable, Filled, sumsFrom, sums-are-hits, sum-small}
+use Rattle.count.specs.Table.{Fillable, Filled, sums-are-hits, sum-small}
 
 -- all references are pages where none is bad
 pub all-pages : (i : ℕ) (trace : List ℕ) → i + length trace ≤ firstBad i trace → Below pages trace
@@ -84,5 +85,5 @@ module _ (trace : List ℕ) (policy k number : ℕ) (table : List ℕ) (checked 
                 answer = sym yes;
                 table =
                     rw yes (f .filled ∙ ap (λ (l : List ℕ). l ++ drop k table)
-                    (ap (λ (d : List ℕ). sumsFrom d 1 k) depths-at ∙ sums-are-hits policy k (count-fit .high) trace 1 k (omega arith) (omega arith)));
+                    (ap (λ (d : List ℕ). valuesFrom (upTo d) 1 k) depths-at ∙ sums-are-hits policy k (count-fit .high) trace));
               }

@@ -1,34 +1,50 @@
--- The marked cases P7 and P8: which refusal a whole trace is given, and where.
+-- The marked cases P7 and P8 of docs/RULES.md: which refusal a whole trace is given, and where. All numbers are the rules' own.
 use Prim.Native.Nat.{ℕ}
 use mathlib.Core.Path.{_≡_, refl}
-use mathlib.Core.List.{List, [], _∷_, map}
+use mathlib.Core.List.{List, [], _∷_}
 use Rattle.rules.specs.Case.{Case, gotten, wished}
-use Rattle.rules.specs.Limits.{lru, lfu, opt}
-use Rattle.rules.specs.Refusals as refusals
-use Rattle.rules.specs.Refusals.{numberOf, placeOf, badPage, badLimit, shortTable}
+use Rattle.rules.specs.Refusals.{numberOf, placeOf, firstBadPage}
 use Rattle.count.specs.Count.{countAnswer}
 
--- policy, K, entries in the hit table, trace; number and place, 0 for none
-abbrev case : ℕ → ℕ → ℕ → List ℕ → ℕ → ℕ → Case
-case policy k room trace number place =
-    let answer = countAnswer policy k room trace in
-    record { got = (numberOf answer ∷ placeOf answer ∷ []) ∷ []; wanted = (number ∷ place ∷ []) ∷ [] }
+-- policy, K, entries in the hit table, trace: the number and the place of the refusal, 0 for none
+unfoldable pub answered : ℕ → ℕ → ℕ → List ℕ → List ℕ
+unfolding countAnswer firstBadPage
+answered policy k room trace = numberOf (countAnswer policy k room trace) ∷ placeOf (countAnswer policy k room trace) ∷ []
 
-abbrev pub answerTable : List Case
-answerTable =
-    case lru 1 1 (7 ∷ 1024 ∷ []) badPage 1
-    ∷ case lfu 1 1 (7 ∷ 1024 ∷ []) badPage 1
-    ∷ case opt 1 1 (7 ∷ 1024 ∷ []) badPage 1
-    ∷ case lru 1 1 (7 ∷ 1023 ∷ []) 0 0
-    ∷ case lfu 1 1 (7 ∷ 1023 ∷ []) 0 0
-    ∷ case opt 1 1 (7 ∷ 1023 ∷ []) 0 0
-    ∷ case lru 0 64 (7 ∷ []) badLimit 0
-    ∷ case lru 65 65 (7 ∷ []) badLimit 0
-    ∷ case lru 0 64 (7 ∷ 1024 ∷ []) badLimit 0
-    ∷ case lru 65 65 (7 ∷ 1024 ∷ []) badLimit 0
-    ∷ case lru 64 63 (7 ∷ []) shortTable 0
-    ∷ []
+-- P7: trace 7 1024: refusal 3, place 1; trace 7 1023 is accepted
+abbrev pub p7 : Case
+p7 =
+    record {
+      got =
+          answered 0 1 1 (7 ∷ 1024 ∷ [])
+          ∷ answered 1 1 1 (7 ∷ 1024 ∷ [])
+          ∷ answered 2 1 1 (7 ∷ 1024 ∷ [])
+          ∷ answered 0 1 1 (7 ∷ 1023 ∷ [])
+          ∷ answered 1 1 1 (7 ∷ 1023 ∷ [])
+          ∷ answered 2 1 1 (7 ∷ 1023 ∷ [])
+          ∷ [];
+      wanted = (3 ∷ 1 ∷ []) ∷ (3 ∷ 1 ∷ []) ∷ (3 ∷ 1 ∷ []) ∷ (0 ∷ 0 ∷ []) ∷ (0 ∷ 0 ∷ []) ∷ (0 ∷ 0 ∷ []) ∷ [];
+    }
 
-pub answer-table-holds : map gotten answerTable ≡ map wished answerTable
-unfolding countAnswer refusals.firstBadPage
-answer-table-holds = refl
+-- P8: K 0 and K 65: refusal 1, also with page 1024 in the trace; K 64 with a table of 63: refusal 4
+abbrev pub p8 : Case
+p8 =
+    record {
+      got =
+          answered 0 0 64 (7 ∷ [])
+          ∷ answered 0 65 65 (7 ∷ [])
+          ∷ answered 0 0 64 (7 ∷ 1024 ∷ [])
+          ∷ answered 0 65 65 (7 ∷ 1024 ∷ [])
+          ∷ answered 0 64 63 (7 ∷ [])
+          ∷ [];
+      wanted = (1 ∷ 0 ∷ []) ∷ (1 ∷ 0 ∷ []) ∷ (1 ∷ 0 ∷ []) ∷ (1 ∷ 0 ∷ []) ∷ (4 ∷ 0 ∷ []) ∷ [];
+    }
+
+-- each by itself, so that a case that fails is named
+pub p7-holds : gotten p7 ≡ wished p7
+unfolding answered
+p7-holds = refl
+
+pub p8-holds : gotten p8 ≡ wished p8
+unfolding answered
+p8-holds = refl

@@ -12,8 +12,9 @@ use Rattle.rules.specs.declared.Answer.{Answer}
 use Rattle.rules.specs.declared.Answer.the-variants.{Accepted, Refused}
 use Rattle.rules.specs.declared.Refusal.{Refusal}
 use Rattle.rules.specs.Lists.{holds}
+use Rattle.rules.specs.TableLaws.{values-length, values-at}
 use Rattle.theory.specs.Policy.{policyOf}
-use Rattle.theory.specs.Plain.{hitsAt, hitsFrom, hitsUpTo, cacheAfter}
+use Rattle.theory.specs.Plain.{hitsAt, hitsUpTo, cacheAfter}
 use Rattle.theory.specs.OnePass.{listOf}
 use Rattle.theory.specs.Order.{policy-order}
 use Rattle.theory.specs.Theorem.{list-is-cache}
@@ -34,18 +35,6 @@ list-unique {r = r} {r′ = r′} a b =
       places = (a .places-are ∙ sym (b .places-are)) i;
     }
 
-hits-length : (policy c n : ℕ) (trace : List ℕ) → length (hitsFrom policy c n trace) ≡ n
-unfolding hitsFrom
-hits-length policy c zero trace = refl
-hits-length policy c (suc n) trace = ap suc (hits-length policy (suc c) n trace)
-
-hits-entry : (policy c n i : ℕ) (trace : List ℕ) → i < n → getD (hitsFrom policy c n trace) i 0 ≡ hitsAt policy (c + i) trace
-unfolding hitsFrom
-hits-entry policy c zero i trace h = absurd (omega arith)
-hits-entry policy c (suc n) zero trace h = rw (add-zero c)
-hits-entry policy c (suc n) (suc i) trace h =
-    rw (hits-entry policy (suc c) n i trace (omega arith), suc-add c i, add-suc c i)
-
 module _ {trace before after : List ℕ} {policy k : ℕ} where
   -- D2, D3: after an accepted count entry C-1 is the number of hits of the plain cache of C frames
   pub entry-is-hits : Counted trace policy k before after Accepted → (c : ℕ) → c < k → getD after c 0 ≡ hitsAt policy (c + 1) trace
@@ -53,11 +42,12 @@ module _ {trace before after : List ℕ} {policy k : ℕ} where
   entry-is-hits p c h =
       let accepted : countAnswer policy k (length before) trace ≡ Accepted = sym (p .answer) in
       let filled : after ≡ hitsUpTo policy k trace ++ drop k before = p .table ∙ rw accepted in
+      let hits : ℕ → ℕ = λ (i : ℕ). hitsAt policy i trace in
       let one : 1 + c ≡ c + 1 = omega arith in
       rw (
         filled,
-        List·getD-append (hitsUpTo policy k trace) (drop k before) 0 c (omega (arith, hits-length policy 1 k trace)),
-        hits-entry policy 1 k c trace h,
+        List·getD-append (hitsUpTo policy k trace) (drop k before) 0 c (omega (arith, values-length hits 1 k)),
+        values-at hits 1 k c h,
         one,
       )
 
@@ -69,7 +59,7 @@ module _ {trace before after : List ℕ} {policy k : ℕ} where
       let filled : after ≡ hitsUpTo policy k trace ++ drop k before = p .table ∙ rw accepted in
       let behind : getD (hitsUpTo policy k trace ++ drop k before) (length (hitsUpTo policy k trace) + i) 0 ≡ getD (drop k before) i 0 =
       getD-append-add (hitsUpTo policy k trace) (drop k before) i 0 in
-      rw filled (rw (hits-length policy 1 k trace) at behind) ∙ getD-drop k before i 0
+      rw filled (rw (values-length (λ (c : ℕ). hitsAt policy c trace) 1 k) at behind) ∙ getD-drop k before i 0
 
   -- A3: a refusal leaves the table as it was
   pub refusal-keeps : {refused : Refusal} → Counted trace policy k before after (Refused refused) → after ≡ before

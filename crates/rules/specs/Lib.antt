@@ -1,8 +1,13 @@
--- What a reader must believe about numbers: the limits and the refusals, each once and by name.
+-- What all other crates share.
+--
+-- What a reader must believe: the limits, the refusals and what an answer says, each number once and by name; lists of numbers.
 pub mod Limits
 pub mod Refusals
 pub mod Lists
-pub mod Cases
+-- A marked case, for the table of all cases:
 pub mod Case
-pub mod FirstBad
+-- Laws:
+pub mod Cases
 pub mod AnswerLaws
+pub mod FirstBad
+pub mod TableLaws

@@ -1,5 +1,5 @@
--- Lists of numbers, pages or frames: is one there, how often, and the list without it.
-use Prim.Native.Nat.{ℕ, suc}
+-- Lists of numbers, pages or frames: is one there, how often, the list without it; and tables of values.
+use Prim.Native.Nat.{ℕ, zero, suc}
 use mathlib.Core.Bool.{Bool, true, false, cond}
 use mathlib.Core.List.{List, [], _∷_}
 use lib.Dec.{eqb}
@@ -21,3 +21,8 @@ without p (z ∷ l) = cond (eqb z p) l (z ∷ without p l)
 unfoldable pub one : Bool → ℕ
 one true = 1
 one false = 0
+
+-- the values of a function at n numbers from c on
+unfoldable pub valuesFrom : (ℕ → ℕ) → ℕ → ℕ → List ℕ
+valuesFrom f c zero = []
+valuesFrom f c (suc n) = f c ∷ valuesFrom f (suc c) n

@@ -1,10 +1,10 @@
 -- The plain cache of c frames (rules C1 to C3), from empty, on the references in order. It knows nothing of the one-pass list.
-use Prim.Native.Nat.{ℕ, zero, suc, _+_}
+use Prim.Native.Nat.{ℕ, _+_}
 use mathlib.Core.Bool.{Bool, cond, not}
 use mathlib.Core.List.{List, [], _∷_, reverse}
 use lib.Dec.{eqb}
 use lib.ListN.{length}
-use Rattle.rules.specs.Lists.{holds, without, one}
+use Rattle.rules.specs.Lists.{holds, without, one, valuesFrom}
 use Rattle.theory.specs.Priority.{Priority, Policy, lower}
 use Rattle.theory.specs.Policy.{policyOf}
 
@@ -41,11 +41,6 @@ missesAfter policy c (x ∷ past) to =
 unfoldable pub hitsAt : ℕ → ℕ → List ℕ → ℕ
 hitsAt policy c trace = hitsAfter (policyOf policy) c (reverse trace) []
 
--- the hits at n capacities from c on
-unfoldable pub hitsFrom : ℕ → ℕ → ℕ → List ℕ → List ℕ
-hitsFrom policy c zero trace = []
-hitsFrom policy c (suc n) trace = hitsAt policy c trace ∷ hitsFrom policy (suc c) n trace
-
 -- A4: the hit table of a whole trace, entry C-1 for each capacity C from 1 to k
 abbrev pub hitsUpTo : ℕ → ℕ → List ℕ → List ℕ
-hitsUpTo policy k trace = hitsFrom policy 1 k trace
+hitsUpTo policy k trace = valuesFrom (λ c. hitsAt policy c trace) 1 k

@@ -5,18 +5,23 @@ use mathlib.Core.Path.{_≡_, refl, ap, _∙_}
 use mathlib.Core.List.{_++_}
 use lib.ListN.{length, drop, length-set}
 use borrow.Author.Needs.{needs}
-use Rattle.count.specs.Table.{sumsFrom, sum-at, sum-fits, fill-next}
+use Rattle.rules.specs.Lists.{valuesFrom}
+use Rattle.rules.specs.TableLaws.{values-next}
+use Rattle.kept.specs.Tally.{upTo}
+use Rattle.count.specs.Table.{sum-at, sum-fits}
 use Rattle.count.proofs.table.fill.Statement.{statement}
 use Rattle.count.proofs.table.fill.Tie as tie
 
 abbrev Inv-loop : tie.InvT-loop
-Inv-loop depths k hits₀ c₀ hits c = (hits ≡ sumsFrom depths 1 c ++ drop c hits₀) × (c ≤ k) × (length hits ≡ length hits₀)
+Inv-loop depths k hits₀ c₀ hits c =
+    (hits ≡ valuesFrom (upTo depths) 1 c ++ drop c hits₀) × (c ≤ k)
+    × (length hits ≡ length hits₀)
 
 abbrev μ-loop : tie.MeasureT-loop
 μ-loop depths k hits₀ c₀ hits c = k - c
 
 loop-holds : tie.Need-loop-holds Inv-loop μ-loop
-unfolding sumsFrom
+unfolding valuesFrom
 loop-holds c = (refl, omega arith, refl)
 
 add-sum : tie.Need-add-sum Inv-loop μ-loop
@@ -26,7 +31,9 @@ sum-requires : tie.Need-sum-requires Inv-loop μ-loop
 sum-requires c κs = search needs
 
 cast-hits : tie.Need-cast-hits Inv-loop μ-loop
-cast-hits c = omega (arith, sum-fits (c .before .before .before .before .pre) (c .before .before .loop .c + 1) (c .sum .result) (c .sum .ensures) (omega arith))
+cast-hits c =
+    let looped = c .before .before in
+    omega (arith, sum-fits (looped .before .before .pre) (looped .loop .c + 1) (c .sum .result) (c .sum .ensures) (omega arith))
 
 mul-hits : tie.Need-mul-hits Inv-loop μ-loop
 mul-hits c = search needs
@@ -41,20 +48,26 @@ loop-less : tie.Need-loop-less Inv-loop μ-loop
 loop-less c = search needs
 
 loop-again : tie.Need-loop-again Inv-loop μ-loop
-loop-again c = (
-  rw (sum-at (c .before .before .before .before .args .depths .now) (c .before .before .loop .c + 1) (c .sum .result) (c .sum .ensures) (omega (arith, c .before .before .before .before .pre .capacity)))
-      (fill-next (c .before .before .before .before .args .depths .now) (c .before .before .loop .hits) (c .before .before .before .before .args .hits .now) (c .before .before .loop .c) (omega (arith, c .before .before .before .before .pre .entries)) (c .before .before .loop .inv .0)),
-  omega arith,
-  simp length-set (omega arith),
-)
+loop-again c =
+    let looped = c .before .before in
+    let asked = looped .before .before in
+    let depths = asked .args .depths .now in
+    let within = asked .pre .capacity in (
+      rw (sum-at depths (looped .loop .c + 1) (c .sum .result) (c .sum .ensures) (omega arith))
+          (values-next (upTo depths) (looped .loop .hits) (asked .args .hits .now) (looped .loop .c)
+          (omega (arith, asked .pre .entries)) (looped .loop .inv .0)),
+      omega arith,
+      simp length-set (omega arith),
+    )
 
 same-length : tie.Need-same-length Inv-loop μ-loop
 same-length c = search needs
 
 returns : tie.Need-returns Inv-loop μ-loop
 returns c =
-    let end : c .before .loop .c ≡ c .before .before .before .args .k = omega arith in
-    record { filled = c .before .loop .inv .0 ∙ ap (λ (n : ℕ). sumsFrom (c .before .before .before .args .depths .now) 1 n ++ drop n (c .before .before .before .args .hits .now)) end }
+    let asked = c .before .before .before in
+    let end : c .before .loop .c ≡ asked .args .k = omega arith in
+    record { filled = rw end at (c .before .loop .inv .0) }
 
 pub fill-spec : {M : Type 1} → statement M
 fill-spec =
