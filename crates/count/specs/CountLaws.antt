@@ -16,6 +16,7 @@ use Rattle.rules.specs.Cases.{by-cases}
 use Rattle.rules.specs.declared.Answer.{Answer}
 use Rattle.rules.specs.declared.Answer.the-variants.{Accepted}
 use Rattle.theory.specs.Policy.{policyOf}
+use Rattle.theory.specs.Plain.{hitsUpTo}
 use Rattle.kept.specs.Below.{Below}
 use Rattle.kept.specs.Tally.{tally, upTo}
 use Rattle.kept.specs.Memory.{depthsAfter}
@@ -64,6 +65,14 @@ module _ (trace : List ℕ) (policy k number : ℕ) (table : List ℕ) (checked 
             let w = limits-within policy k (length trace) (sym checked ∙ passed) in
             record { low = w .low; high = w .high; short = w .few; good = all-pages 0 trace (omega arith); within = omega arith }
 
+        -- the hits of the plain caches in front, and behind them what stood there
+        pub count-filled : {after : List ℕ} → after ≡ hitsUpTo policy k trace ++ drop k table → Counted trace policy k table after Accepted
+        unfolding countAnswer countTable
+        count-filled e =
+            let yes : countAnswer policy k (length table) trace ≡ Accepted =
+            through _ ∙ rw (le-ltb (length table) k room, first-bad-none 0 trace Accepted (omega arith)) in
+            record { answer = sym yes; table = rw yes e }
+
         module _ {run : Run} (ran : Ran policy trace k (length trace) run) where
           depths-at : run .depths ≡ tally (policyOf policy) k (reverse trace) []
           depths-at = ran .running .depths-are ∙ (unfold depthsAfter in rw (take-length trace, drop-length trace))
@@ -77,13 +86,6 @@ module _ (trace : List ℕ) (policy k number : ℕ) (table : List ℕ) (checked 
               })
 
           pub count-done : {after : List ℕ} → Filled (run .depths) k table after → Counted trace policy k table after Accepted
-          unfolding countAnswer countTable
           count-done f =
-              let yes : countAnswer policy k (length table) trace ≡ Accepted =
-              through _ ∙ rw (le-ltb (length table) k room, first-bad-none 0 trace Accepted (omega arith)) in
-              record {
-                answer = sym yes;
-                table =
-                    rw yes (f .filled ∙ ap (λ (l : List ℕ). l ++ drop k table)
-                    (ap (λ (d : List ℕ). valuesFrom (upTo d) 1 k) depths-at ∙ sums-are-hits policy k (count-fit .high) trace));
-              }
+              count-filled (f .filled ∙ ap (λ (l : List ℕ). l ++ drop k table)
+              (ap (λ (d : List ℕ). valuesFrom (upTo d) 1 k) depths-at ∙ sums-are-hits policy k (count-fit .high) trace))

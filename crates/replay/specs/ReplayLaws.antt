@@ -1,0 +1,214 @@
+-- A replay, step by step: a reference, the hit table, the promise answer by answer.
+use Prim.Native.Nat.{ℕ, suc, _+_, _≤_, _<_}
+use native.Mathlib.Omega.{arith}
+use native.Mathlib.Numerals.{add-one}
+use mathlib.Core.Bool.{true, false}
+use mathlib.Core.Path.{_≡_, refl, sym, _∙_, ap, subst₂}
+use mathlib.Core.List.{List, [], _∷_, _++_, reverse}
+use lib.Dec.{leb}
+use lib.ListN.{length, take, drop, getD, set, length-reverse}
+use lib.Seq.{take-length}
+use borrow.Author.Tests.{le-leb, lt-leb, le-ltb, lt-ltb, leb-true, leb-false}
+use Rattle.rules.specs.Limits.{capacities, references, pages, policies, opt, isCapacity}
+use Rattle.rules.specs.Refusals.{refusal, refuseIf, badPolicy, tooManyReferences, shortTable, badPage}
+use Rattle.rules.specs.Cases.{by-cases, clash}
+use Rattle.rules.specs.AnswerLaws.{accepted-twice, not-accepted}
+use Rattle.rules.specs.Lists.{valuesFrom}
+use Rattle.rules.specs.TableLaws.{values-next}
+use Rattle.rules.specs.FirstBad.{firstBad, first-bad-at, first-bad-next, first-bad-end, first-bad-most}
+use Rattle.rules.specs.declared.Refusal.{Refusal}
+use Rattle.rules.specs.declared.Answer.{Answer}
+use Rattle.rules.specs.declared.Answer.the-variants.{Accepted, Refused}
+use Rattle.theory.specs.Policy.{policyOf}
+use Rattle.theory.specs.Plain.{hitsAt, hitsUpTo}
+use Rattle.theory.specs.Theorem.{hits-and-misses}
+use Rattle.kept.specs.Below.{Below}
+use Rattle.count.specs.Count.{Counted, withinLimits, countAnswer, countTable}
+use Rattle.count.specs.Checks.{limitsNumber}
+use Rattle.count.specs.Runs.{before}
+use Rattle.count.specs.RunLaws.{before-next, before-below, before-length}
+use Rattle.count.specs.CountLaws.{count-limits, count-short, count-bad, count-filled, all-pages}
+use Rattle.session.specs.declared.Session.{Session}
+use Rattle.session.specs.declared.Started.{Started}
+use Rattle.session.specs.declared.Started.the-variants as started
+use Rattle.session.specs.declared.Depth.{Depth}
+use Rattle.session.specs.declared.Referenced.{Referenced}
+use Rattle.session.specs.declared.Asked.{Asked}
+use Rattle.session.specs.History.{startAnswer, referenceAnswer, acceptedOf, depthOf, hitsNow, capacityAnswer}
+use Rattle.session.specs.Memory.{Value, Depths, Gives, Alive, Counting}
+use Rattle.session.specs.Answers.{Starting, Referring, depthAs, fresh}
+use Rattle.session.specs.Reads.{HitsRead, askedAs}
+use Rattle.session.specs.ReferLaws.{start-bounds, accepted-all, accepted-few}
+use Rattle.session.specs.Driving.{begun, not-begun, begun-gives}
+use Rattle.replay.specs.declared.Run.{Run}
+use Rattle.replay.specs.Replayed.{Replayed, replayAnswer, replayTable}
+use Rattle.replay.specs.Steps.{refusedIn, numberIn, Fresh, Referable, Followed, Readable, HitsFilled}
+
+-- i references were accepted, and the first bad page is still to come
+pub record Along (s : Session) (trace : List ℕ) (i : ℕ) (now : Session) (places depths counts : List ℕ) : Type 0 where
+  pub inside : i ≤ length trace
+  pub pages-only : Below pages (before trace i)
+  pub gives : Gives (s .policy) (s .k) (before trace i) now places depths counts
+  pub ahead : firstBad i (drop i trace) ≡ firstBad 0 trace
+
+pub along-start : {s : Session} {trace places depths counts : List ℕ} → Referable s trace places depths counts
+    → Along s trace 0 s places depths counts
+along-start asked = record { inside = omega arith; pages-only = tt; gives = asked .fresh; ahead = refl }
+
+-- the session may be asked for one more
+pub along-alive : {s now : Session} {trace places depths counts : List ℕ} {i : ℕ} → Along s trace i now places depths counts
+    → Alive now places depths counts
+along-alive {s} {trace = trace} {i = i} a =
+    record { policy = s .policy; k = s .k; calls = before trace i; gives = a .gives }
+
+module _ {s now : Session} {trace places depths counts places′ depths′ counts′ : List ℕ} {i : ℕ} {r : Referenced} (few : length trace ≤ references)
+    (a : Along s trace i now places depths counts) (more : i < length trace)
+    (done : Referring now (getD trace i 0) places depths counts places′ depths′ counts′ r) where
+  so-far : acceptedOf (before trace i) ≡ before trace i
+  so-far = accepted-all (before trace i) (a .pages-only) (omega (arith, before-length trace i (a .inside)))
+
+  -- there is room, so whether the reference is accepted is whether it is a page
+  answers : (isBad : _) → leb pages (getD trace i 0) ≡ isBad
+      → r .depth ≡ depthAs (refuseIf isBad badPage Accepted) (depthOf (s .policy) (s .k) (before trace i) (getD trace i 0))
+  answers isBad e =
+      done .answer (s .policy) (s .k) (before trace i) (a .gives)
+      ∙ rw (so-far, lt-leb references (length (before trace i)) (omega (arith, before-length trace i (a .inside))), e)
+
+  pub along-next : refusedIn (r .depth) ≡ false → Along s trace (i + 1) (r .session) places′ depths′ counts′
+  along-next accepted =
+      let page-fine : getD trace i 0 < pages =
+      by-cases (leb pages (getD trace i 0)) (λ e. clash (ap refusedIn (answers true e)) accepted) (λ e. leb-false pages (getD trace i 0) e) in
+      let longer : before trace (i + 1) ≡ getD trace i 0 ∷ before trace i = before-next trace i more in
+      record {
+        inside = omega arith;
+        pages-only = rw longer (page-fine, a .pages-only);
+        gives = rw longer (done .next (s .policy) (s .k) (before trace i) (a .gives));
+        ahead = sym (first-bad-next trace i more page-fine) ∙ a .ahead;
+      }
+
+  pub along-stop : refusedIn (r .depth) ≡ true → Followed s trace places′ depths′ counts′ (record { session = r .session; accepted = i })
+  along-stop refused =
+      let bad : pages ≤ getD trace i 0 =
+      by-cases (leb pages (getD trace i 0)) (λ e. leb-true pages (getD trace i 0) e) (λ e. clash refused (ap refusedIn (answers false e))) in
+      record {
+        accepted-is = sym (first-bad-at trace i more bad) ∙ a .ahead;
+        gives = λ all. absurd (omega arith);
+      }
+
+pub along-end : {s now : Session} {trace places depths counts : List ℕ} {i : ℕ} → Along s trace i now places depths counts → length trace ≤ i
+    → Followed s trace places depths counts (record { session = now; accepted = i })
+along-end {s} {trace = trace} {i = i} a end =
+    let all : i ≡ length trace = omega (arith, a .inside) in
+    record {
+      accepted-is = sym (first-bad-end trace i end) ∙ a .ahead;
+      gives = λ e. rw (all, take-length trace) at (a .gives);
+    }
+
+-- what is read at a capacity that the session has is the hits of the plain cache
+module _ {s : Session} {depths : List ℕ} {c : ℕ} {asked : Asked} (inside : c < s .k) (read : HitsRead s depths (c + 1) asked) where
+  number-is : (policy k : ℕ) (calls : List ℕ) → Value policy k calls s → Depths policy k calls depths
+      → numberIn asked ≡ hitsNow policy (c + 1) calls
+  number-is policy k calls v d =
+      ap numberIn (read .hits-are policy k calls v d)
+      ∙ rw (le-leb 1 (c + 1) (omega arith), le-leb (c + 1) k (omega (arith, v .k-is)))
+
+  pub number-fits : {number : ℕ} → number ≡ numberIn asked → Counting s depths → number ≤ references
+  number-fits told a =
+      omega (
+        arith,
+        number-is (a .policy) (a .k) (a .calls) (a .value) (a .tallied),
+        hits-and-misses (policyOf (a .policy)) (c + 1) (acceptedOf (a .calls)) [],
+        accepted-few (a .calls),
+      )
+
+  pub hits-next : (before : List ℕ) {hits : List ℕ} {number : ℕ} → number ≡ numberIn asked → c < length before
+      → HitsFilled s depths c before hits → HitsFilled s depths (c + 1) before (set hits c number)
+  hits-next before {hits} told room filled =
+      λ policy k calls v d.
+      rw (told, number-is policy k calls v d) (values-next (λ n. hitsNow policy n calls) hits before c room (filled policy k calls v d))
+
+-- the refusals 5, 1 and 2 of a trace whose session was started
+limits-many : (policy k n : ℕ) → startAnswer policy k ≡ Accepted → references < n → limitsNumber policy k n ≡ tooManyReferences
+limits-many policy k n e many =
+    let b = start-bounds policy k e in
+    let small : policy < policies = omega (arith, b .session) in
+    rw (lt-leb policies policy small, le-leb 1 k (b .low), le-leb k capacities (b .high), lt-ltb references n many)
+
+limits-none : (policy k n : ℕ) → startAnswer policy k ≡ Accepted → n ≤ references → limitsNumber policy k n ≡ 0
+limits-none policy k n e few =
+    let b = start-bounds policy k e in
+    let small : policy < policies = omega (arith, b .session) in
+    rw (lt-leb policies policy small, le-leb 1 k (b .low), le-leb k capacities (b .high), le-ltb references n few)
+
+module _ {s : Session} {places depths counts : List ℕ} (only-started : Fresh s places depths counts) (trace table : List ℕ) where
+  pub drive-many : references < length trace → Counted trace (s .policy) (s .k) table table (refusal tooManyReferences 0)
+  drive-many many =
+      count-limits trace (s .policy) (s .k) tooManyReferences table (sym (limits-many (s .policy) (s .k) (length trace) (only-started .value .started) many))
+      (λ z. omega arith)
+
+  module _ (few : length trace ≤ references) where
+    passed : 0 ≡ limitsNumber (s .policy) (s .k) (length trace)
+    passed = sym (limits-none (s .policy) (s .k) (length trace) (only-started .value .started) few)
+
+    pub drive-short : length table < s .k → Counted trace (s .policy) (s .k) table table (refusal shortTable 0)
+    drive-short short = count-short trace (s .policy) (s .k) 0 table passed refl short
+
+    module _ (room : s .k ≤ length table) {places′ depths′ counts′ : List ℕ} {r : Run} (followed : Followed s trace places′ depths′ counts′ r) where
+      pub drive-bad : r .accepted < length trace → Counted trace (s .policy) (s .k) table table (refusal badPage (r .accepted))
+      drive-bad bad = count-bad trace (s .policy) (s .k) 0 table passed refl room (r .accepted) (followed .accepted-is) bad
+
+      module _ (all : length trace ≤ r .accepted) where
+        whole : Gives (s .policy) (s .k) (reverse trace) (r .session) places′ depths′ counts′
+        whole = followed .gives (omega (arith, followed .accepted-is, first-bad-most 0 trace))
+
+        pub drive-readable : Readable (r .session) depths′ table
+        drive-readable =
+            let g = whole in
+            record {
+              counting = record { policy = s .policy; k = s .k; calls = reverse trace; value = g .value; tallied = g .tallied };
+              room = omega (arith, g .value .k-is);
+            }
+
+        pub drive-done : {after : List ℕ} → HitsFilled (r .session) depths′ (r .session .k) table after
+            → Counted trace (s .policy) (s .k) table after Accepted
+        unfolding hitsAt
+        drive-done filled =
+            let g = whole in
+            let good : Below pages (reverse trace) = rw (take-length trace) at (before-below pages trace (length trace) (all-pages 0 trace (omega (arith, followed .accepted-is)))) in
+            let accepted : acceptedOf (reverse trace) ≡ reverse trace = accepted-all (reverse trace) good (omega (arith, length-reverse trace)) in
+            count-filled trace (s .policy) (s .k) 0 table passed refl room (r .accepted) (followed .accepted-is) all
+            (rw (g .value .k-is, accepted) at (filled (s .policy) (s .k) (reverse trace) (g .value) (g .tallied)))
+
+-- 5 and 1 of a start that was refused are those of the replay
+refused-start : (policy k n : ℕ) (rest : Answer) {x : Refusal} → startAnswer policy k ≡ Refused x
+    → refuseIf (leb opt policy) badPolicy (withinLimits policy k n rest) ≡ Refused x
+refused-start policy k n rest e =
+    by-cases (leb opt policy) (λ a. rw a (rw a at e))
+    (λ a. by-cases (isCapacity k) (λ b. not-accepted (sym (rw (a, b) at e)))
+    (λ b. rw (a, lt-leb policies policy (omega (arith, leb-false opt policy a)), b) (rw (a, b) at e)))
+
+-- the promise, by what the start answered
+module _ {policy k : ℕ} {places depths counts places′ depths′ counts′ : List ℕ} {answer : Started}
+    (p : Starting policy k places depths counts places′ depths′ counts′ answer) where
+  pub replay-fresh : {s : Session} → answer ≡ started.Begun s → Fresh s places′ depths′ counts′
+  replay-fresh {s} e =
+      let at-policy : s .policy ≡ policy = ap (λ (x : Session). x .policy) (begun p e .1) in
+      let at-k : s .k ≡ k = ap (λ (x : Session). x .k) (begun p e .1) in
+      subst₂ (λ (m n : ℕ). Gives m n [] s places′ depths′ counts′) (sym at-policy) (sym at-k) (begun-gives p e)
+
+  pub replay-driven : (trace table : List ℕ) {s : Session} {after : List ℕ} {r : Answer} → answer ≡ started.Begun s
+      → Counted trace (s .policy) (s .k) table after r → Replayed trace policy k table after r
+  unfolding replayAnswer replayTable countTable
+  replay-driven trace table e counted =
+      let b = start-bounds policy k (begun p e .0) in
+      let c : Counted trace policy k table _ _ = rw (begun p e .1) at counted in
+      record {
+        answer = c .answer ∙ rw (lt-leb opt policy (b .session));
+        table = c .table ∙ rw (lt-leb opt policy (b .session)) (sym (accepted-twice (countAnswer policy k (length table) trace) _ table));
+      }
+
+  pub replay-refused : (trace table : List ℕ) {x : Refusal} → answer ≡ started.Refused x → Replayed trace policy k table table (Refused x)
+  unfolding replayAnswer replayTable countAnswer
+  replay-refused trace table {x} e =
+      let same : replayAnswer policy k (length table) trace ≡ Refused x = refused-start policy k (length trace) _ (not-begun p e) in
+      record { answer = sym same; table = rw same }

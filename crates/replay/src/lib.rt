@@ -1,0 +1,132 @@
+// How another crate uses `session`: a trace is replayed through one, reference by reference, and the hits are read off it. The
+// session and its tables are local; what each call asks of them is what the start and the calls before it have left, and the laws
+// for that stand in session's specs/Driving.antt. The answer is that of `count` for the same trace.
+ghost use mathlib.Core.Path.{_≡_};
+ghost use Rattle.count.specs.Count.{Counted};
+ghost use Rattle.replay.specs.Replayed.{Replayed};
+ghost use Rattle.replay.specs.Steps.{Fresh, Referable, Followed, Readable, HitsFilled, refusedIn, numberIn};
+use rules::Answer;
+use rules::BAD_PAGE;
+use rules::CAPACITIES;
+use rules::PAGES;
+use rules::Page;
+use rules::REFERENCES;
+use rules::SHORT_TABLE;
+use rules::TOO_MANY_REFERENCES;
+use session::Asked;
+use session::Depth;
+use session::Session;
+use session::Started;
+use step::DEPTHS;
+
+// The session after the references that it accepted, and how many those were.
+pub struct Run {
+    pub session: Session,
+    pub accepted: usize,
+}
+
+// Replays a trace under LRU or LFU, and writes the hits at each capacity from 1 to `k` into the first `k` entries of `hits`.
+pub fn replay(trace: &[u16], policy: u8, k: usize, hits: &mut [u32]) -> Answer
+    ensures { λ r. ⌜ Replayed (now (trace .entry)) policy k (now (hits .entry)) (now (hits .exit)) r ⌝ }
+{
+    let mut places = [0u32; CAPACITIES];
+    let mut depths = [0u32; DEPTHS];
+    let mut counts = [0u16; PAGES as usize];
+    let started = session::start(policy, k, &mut places, &mut depths, &mut counts);
+    match started {
+        Started::Refused(r) => Answer::Refused(r),
+        Started::Begun(s) => drive(s, trace, hits, &mut places, &mut depths, &mut counts),
+    }
+}
+
+// A fresh session driven through a trace. The refusals are those of a whole trace after 5 and 1: 2, 4, 3.
+fn drive(
+    s: Session,
+    trace: &[u16],
+    hits: &mut [u32],
+    places: &mut [u32; CAPACITIES],
+    depths: &mut [u32; DEPTHS],
+    counts: &mut [u16; PAGES as usize],
+) -> Answer
+    requires { ⌜ Fresh s (now places) (now depths) (now counts) ⌝ }
+    ensures { λ r. ⌜ Counted (now (trace .entry)) (s .policy) (s .k) (now (hits .entry)) (now (hits .exit)) r ⌝ }
+{
+    if REFERENCES < trace.len() {
+        return rules::refuse(TOO_MANY_REFERENCES, 0);
+    }
+    if hits.len() < s.k {
+        return rules::refuse(SHORT_TABLE, 0);
+    }
+    let run = refer_all(s, trace, places, depths, counts);
+    let accepted = run.accepted;
+    if accepted < trace.len() {
+        return rules::refuse(BAD_PAGE, accepted);
+    }
+    read_hits(run.session, depths, hits);
+    Answer::Accepted
+}
+
+// Was the reference refused?
+fn was_refused(depth: Depth) -> bool
+    ensures { λ r. ⌜ r ≡ refusedIn depth ⌝ }
+{
+    match depth {
+        Depth::Accepted(d) => false,
+        Depth::Refused(r) => true,
+    }
+}
+
+// The trace's references, up to the first that is refused.
+fn refer_all(
+    s: Session,
+    trace: &[u16],
+    places: &mut [u32; CAPACITIES],
+    depths: &mut [u32; DEPTHS],
+    counts: &mut [u16; PAGES as usize],
+) -> Run
+    requires { ⌜ Referable s (now trace) (now places) (now depths) (now counts) ⌝ }
+    ensures { λ r. ⌜ Followed s (now (trace .entry)) (now (places .exit)) (now (depths .exit)) (now (counts .exit)) r ⌝ }
+{
+    let mut session = s;
+    let mut i = 0;
+    while i < trace.len() {
+        let page = Page(trace[i]);
+        let referenced = session::refer(session, page, places, depths, counts);
+        session = referenced.session;
+        let depth = referenced.depth;
+        if was_refused(depth) {
+            return Run {
+                session,
+                accepted: i,
+            };
+        }
+        i += 1;
+    }
+    Run {
+        session,
+        accepted: i,
+    }
+}
+
+// The number that was asked for.
+fn number(asked: Asked) -> usize
+    ensures { λ r. ⌜ r ≡ numberIn asked ⌝ }
+{
+    match asked {
+        Asked::Number(n) => n,
+        Asked::Refused(r) => 0,
+    }
+}
+
+// The hits at each capacity, read off the session.
+fn read_hits(s: Session, depths: &[u32; DEPTHS], hits: &mut [u32])
+    requires { ⌜ Readable s (now depths) (now hits) ⌝ }
+    ensures { λ _. ⌜ HitsFilled s (now (depths .entry)) (s .k) (now (hits .entry)) (now (hits .exit)) ⌝ }
+{
+    let mut c = 0;
+    while c < s.k {
+        let asked = session::hits(s, depths, c + 1);
+        hits[c] = number(asked) as u32;
+        c += 1;
+    }
+}
