@@ -4,7 +4,7 @@ use Prim.Native.Nat.{ℕ, zero, suc, _+_, _≤_, _<_}
 use native.Mathlib.Omega.{arith}
 use native.Mathlib.Nat.{add-suc, suc-add, add-zero}
 use mathlib.Core.Path.{_≡_, refl, sym, _∙_, ap}
-use mathlib.Core.List.{List, [], _∷_, _++_, reverse}
+use mathlib.Core.List.{List, [], _∷_, _++_, map, reverse}
 use lib.ListN.{length, take, drop, getD, List·getD-append}
 use lib.Seq.{getD-append-add, getD-drop, drop-drop}
 use Rattle.rules.specs.Refusals.{whenAccepted}
@@ -15,10 +15,11 @@ use Rattle.rules.specs.Lists.{holds}
 use Rattle.rules.specs.TableLaws.{values-length, values-at}
 use Rattle.theory.specs.Policy.{policyOf}
 use Rattle.theory.specs.Plain.{hitsAt, hitsUpTo, cacheAfter}
-use Rattle.theory.specs.OnePass.{listOf}
+use Rattle.theory.specs.OnePass.{listOf, listAfter}
 use Rattle.theory.specs.Order.{policy-order}
-use Rattle.theory.specs.Theorem.{list-is-cache}
+use Rattle.theory.specs.Theorem.{list-is-cache, at-most}
 use Rattle.count.specs.Count.{Counted, countAnswer, countTable, listAnswer, listShown}
+use Rattle.step.specs.Shown.{pagesShown, shown-back, zero-past}
 use Rattle.count.specs.Listing.{Showing}
 use Rattle.count.specs.declared.Listed.{Listed}
 
@@ -68,9 +69,31 @@ module _ {trace before after : List ℕ} {policy k : ℕ} where
       let no-count : countAnswer policy k (length before) trace ≡ Refused refused = sym (p .answer) in
       p .table ∙ rw no-count
 
--- D3: the pages in the first C places of the list that is shown after t references are those of the plain cache of C frames
-pub shown-is-cache : (trace : List ℕ) (policy k t : ℕ) → listAnswer policy k trace t ≡ Accepted → (c : ℕ) → 1 ≤ c → c ≤ k → (p : ℕ)
-    → holds p (take c (listShown policy k trace t)) ≡ holds p (cacheAfter (policyOf policy) c (reverse (take t trace)) (drop t trace))
-unfolding listShown listOf
-shown-is-cache trace policy k t accepted c low high p =
-    rw accepted (list-is-cache (policyOf policy) (policy-order policy) c k low high (reverse (take t trace)) (drop t trace) p)
+-- of a list that was answered: its length is at most K, and it shows 0 past it
+module _ {trace : List ℕ} {policy k t : ℕ} {r : Listed} (p : Showing trace policy k t r) where
+  pub listed-zero : (i : ℕ) → r .length ≤ i → getD (map (λ q. q .0) (r .places)) i 0 ≡ 0
+  listed-zero i h = rw (p .places-are) (zero-past (listShown policy k trace t) i (omega (arith, p .length-is)))
+
+  shown-is : pagesShown (r .length) (r .places) ≡ listShown policy k trace t
+  shown-is = rw (p .length-is, p .places-are) (shown-back (listShown policy k trace t))
+
+  module _ (accepted : r .answer ≡ Accepted) where
+    is-list : pagesShown (r .length) (r .places) ≡ listAfter (policyOf policy) k (reverse (take t trace)) (drop t trace)
+    unfolding listShown listOf
+    is-list =
+        let yes : listAnswer policy k trace t ≡ Accepted = sym (p .answer-is) ∙ accepted in
+        shown-is ∙ rw yes
+
+    pub listed-most : r .length ≤ k
+    unfolding listShown listOf
+    listed-most =
+        let yes : listAnswer policy k trace t ≡ Accepted = sym (p .answer-is) ∙ accepted in
+        let long : r .length ≡ length (listAfter (policyOf policy) k (reverse (take t trace)) (drop t trace)) = p .length-is ∙ rw yes in
+        rw long (at-most (policyOf policy) (policy-order policy) k (reverse (take t trace)) (drop t trace))
+
+    -- D3: the pages in its first C places are those of the plain cache of C frames after t references, with the rest of the trace to come
+    pub listed-is-cache : (c : ℕ) → 1 ≤ c → c ≤ k → (page : ℕ)
+        → holds page (take c (pagesShown (r .length) (r .places)))
+        ≡ holds page (cacheAfter (policyOf policy) c (reverse (take t trace)) (drop t trace))
+    listed-is-cache c low high page =
+        rw is-list (list-is-cache (policyOf policy) (policy-order policy) c k low high (reverse (take t trace)) (drop t trace) page)

@@ -7,6 +7,7 @@ pub mod Answers
 pub mod Reads
 -- What the promises give their users, and whoever drives a session:
 pub mod Promises
+pub mod Demands
 pub mod Driving
 -- Laws: which references are accepted, the session over a reference, the promises answer by answer.
 pub mod ReferLaws

@@ -1,27 +1,16 @@
--- What the promises of a session give its users: the state is a function of the history, a refused reference changes nothing, and
--- the demands hold of the session's own answers (docs/RULES.md, D1 to D3).
-use Prim.Native.Nat.{ℕ, suc, _+_, _≤_, _<_}
-use native.Mathlib.Omega.{arith}
-use mathlib.Core.Path.{_≡_, refl, sym, _∙_, ap}
-use mathlib.Core.List.{List, [], _∷_, reverse}
-use lib.ListN.{length, take}
-use Rattle.rules.specs.Limits.{references, pages}
-use Rattle.rules.specs.Lists.{holds}
-use Rattle.theory.specs.Policy.{policyOf}
-use Rattle.theory.specs.Plain.{cacheAfter, hitsAt}
-use Rattle.theory.specs.OnePass.{within}
-use Rattle.theory.specs.Order.{policy-order}
-use Rattle.theory.specs.Theorem.{list-is-cache, hit-by-depth, hits-and-misses}
+-- A session's promises pin their whole answers: the state is a function of the history, and two answers that both meet a promise are
+-- equal.
+use Prim.Native.Nat.{ℕ}
+use mathlib.Core.Path.{_≡_, sym, _∙_}
+use mathlib.Core.List.{List}
 use Rattle.session.specs.declared.Session.{Session}
 use Rattle.session.specs.declared.Started.{Started}
 use Rattle.session.specs.declared.Referenced.{Referenced}
 use Rattle.session.specs.declared.Listing.{Listing}
 use Rattle.session.specs.declared.Asked.{Asked}
-use Rattle.session.specs.History.{acceptedOf, listNow, depthOf, hitsNow, missesNow}
 use Rattle.session.specs.Memory.{Value, Gives, Alive, Valued, Listable, Counting}
 use Rattle.session.specs.Answers.{Starting, Referring}
 use Rattle.session.specs.Reads.{ListRead, ReferencesRead, HitsRead, MissesRead}
-use Rattle.session.specs.ReferLaws.{accepted-full, accepted-bad}
 
 -- a history gives one session only
 value-unique : {policy k : ℕ} {calls : List ℕ} {s s′ : Session} → Value policy k calls s → Value policy k calls s′ → s ≡ s′
@@ -76,49 +65,3 @@ hits-read-unique a f g =
 pub misses-read-unique : {s : Session} {d : List ℕ} {c : ℕ} {r₁ r₂ : Asked} → Counting s d → MissesRead s d c r₁ → MissesRead s d c r₂ → r₁ ≡ r₂
 misses-read-unique a f g =
     f .misses-are (a .policy) (a .k) (a .calls) (a .value) (a .tallied) ∙ sym (g .misses-are (a .policy) (a .k) (a .calls) (a .value) (a .tallied))
-
--- A3: a reference that is not accepted leaves the session and its tables as they were
-refused-keeps : {policy k page : ℕ} {calls : List ℕ} {s s′ : Session} {p d c p′ d′ c′ : List ℕ} → acceptedOf (page ∷ calls) ≡ acceptedOf calls
-    → Gives policy k calls s p d c → Gives policy k (page ∷ calls) s′ p′ d′ c′ → (s′ ≡ s) × (p′ ≡ p) × (d′ ≡ d) × (c′ ≡ c)
-refused-keeps {policy} {k} e a b =
-    gives-unique
-    (record {
-      value =
-          record {
-            started = b .value .started;
-            policy-is = b .value .policy-is;
-            k-is = b .value .k-is;
-            length-is = rw e at (b .value .length-is);
-            references-are = rw e at (b .value .references-are);
-          };
-      list = record { places-are = rw e at (b .list .places-are) };
-      tallied = record { depths-are = rw e at (b .tallied .depths-are) };
-      counted = record { counts-are = rw e at (b .counted .counts-are) };
-    }) a
-
-module _ {s : Session} {page : ℕ} {p d c p′ d′ c′ : List ℕ} {r : Referenced} (a : Alive s p d c) (f : Referring s page p d c p′ d′ c′ r) where
-  pub full-keeps : references ≤ length (acceptedOf (a .calls)) → (r .session ≡ s) × (p′ ≡ p) × (d′ ≡ d) × (c′ ≡ c)
-  full-keeps h =
-      refused-keeps (accepted-full (a .calls) page h) (a .gives) (f .next (a .policy) (a .k) (a .calls) (a .gives))
-
-  pub bad-keeps : length (acceptedOf (a .calls)) < references → pages ≤ page → (r .session ≡ s) × (p′ ≡ p) × (d′ ≡ d) × (c′ ≡ c)
-  bad-keeps h b =
-      refused-keeps (accepted-bad (a .calls) page h b) (a .gives) (f .next (a .policy) (a .k) (a .calls) (a .gives))
-
-module _ (policy k : ℕ) (calls : List ℕ) (c : ℕ) (low : 1 ≤ c) where
-  -- D3: after every call, the first C places of the list hold what the plain cache of C frames holds
-  pub session-list-is-cache : c ≤ k → (page : ℕ) → holds page (take c (listNow policy k calls)) ≡ holds page (cacheAfter (policyOf policy) c (acceptedOf calls) [])
-  session-list-is-cache high page = list-is-cache (policyOf policy) (policy-order policy) c k low high (acceptedOf calls) [] page
-
-  -- D3: a reference is a hit at C by the depth answered exactly if the plain cache of C frames held the page just before it
-  pub session-hit : c ≤ k → (page : ℕ) → within (depthOf policy k calls page) c ≡ holds page (cacheAfter (policyOf policy) c (acceptedOf calls) [])
-  session-hit high page = hit-by-depth (policyOf policy) (policy-order policy) c k low high page (acceptedOf calls) []
-
-  -- A5
-  pub session-adds-up : hitsNow policy c calls + missesNow policy c calls ≡ length (acceptedOf calls)
-  session-adds-up = hits-and-misses (policyOf policy) c (acceptedOf calls) []
-
-  -- a whole-trace count of the same accepted references gives the same hits
-  pub session-is-count : (trace : List ℕ) → acceptedOf calls ≡ reverse trace → hitsNow policy c calls ≡ hitsAt policy c trace
-  unfolding hitsAt
-  session-is-count trace e = rw e

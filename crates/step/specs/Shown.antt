@@ -5,10 +5,11 @@ use native.Mathlib.Numerals.{add-one}
 use mathlib.Core.Path.{_≡_, refl, sym, _∙_, ap}
 use mathlib.Core.List.{List, [], _∷_, _++_, map, append-assoc}
 use lib.ListN.{length, take, getD, set, replicate, length-append, length-map}
-use lib.Seq.{take-suc, set-at, length-take-le}
+use lib.Seq.{take-suc, take-append-seam, getD-append-add, set-at, length-take-le}
 use Rattle.rules.specs.Limits.{capacities}
 use Rattle.rules.specs.declared.Page.{Page}
 use Rattle.kept.specs.Entries.{pageOf}
+use Rattle.kept.specs.Tally.{zeros-at}
 
 abbrev pub page : ℕ → Page
 page n = record { 0 = n }
@@ -16,6 +17,10 @@ page n = record { 0 = n }
 -- A6: the pages of a list, and 0 past its length
 unfoldable pub placesOf : List ℕ → List Page
 placesOf l = map page l ++ replicate (capacities - length l) (page 0)
+
+-- read back: the page numbers in the first n places that are shown
+unfoldable pub pagesShown : ℕ → List Page → List ℕ
+pagesShown n places = take n (map (λ p. p .0) places)
 
 -- of the first n entries of a memory, as far as there are places
 unfoldable pub shownPlaces : ℕ → List ℕ → List Page
@@ -76,3 +81,26 @@ unfolding shownPlaces
 shown-all n memory h room =
     let all : min (min n (length memory)) capacities ≡ n = omega arith in
     rw all
+
+-- what is shown of a list are its pages, and 0 in every place past them
+numbers-shown : (l : List ℕ) → map (λ p. p .0) (placesOf l) ≡ l ++ replicate (capacities - length l) 0
+unfolding placesOf
+numbers-shown l = shown-from l (capacities - length l)
+  where
+    zeros-shown : (n : ℕ) → map (λ (p : Page). p .0) (replicate n (page 0)) ≡ replicate n 0
+    zeros-shown zero = refl
+    zeros-shown (suc n) = rw (zeros-shown n)
+
+    shown-from : (l : List ℕ) (n : ℕ) → map (λ (p : Page). p .0) (map page l ++ replicate n (page 0)) ≡ l ++ replicate n 0
+    shown-from [] n = zeros-shown n
+    shown-from (x ∷ l) n = rw (shown-from l n)
+
+pub shown-back : (l : List ℕ) → pagesShown (length l) (placesOf l) ≡ l
+unfolding pagesShown
+shown-back l = rw (numbers-shown l) (take-append-seam l (replicate (capacities - length l) 0))
+
+pub zero-past : (l : List ℕ) (i : ℕ) → length l ≤ i → getD (map (λ p. p .0) (placesOf l)) i 0 ≡ 0
+zero-past l i h =
+    let past : i ≡ length l + (i - length l) = omega arith in
+    rw (numbers-shown l, past, getD-append-add l (replicate (capacities - length l) 0) (i - length l) 0)
+    (zeros-at (capacities - length l) (i - length l))
