@@ -6,17 +6,15 @@ use mathlib.Core.Path.{_≡_, refl, sym, _∙_}
 use lib.Dec.{leb, ltb}
 use borrow.Author.Tests.{leb-true, leb-false, ltb-false}
 use Rattle.rules.specs.Limits.{policies, references, isCapacity, capacities}
-use Rattle.rules.specs.Refusals.{badPolicy, badLimit, tooManyReferences, refusal}
+use Rattle.rules.specs.Refusals.{refusal, numberOf}
 use Rattle.rules.specs.Cases.{by-cases}
 use Rattle.rules.specs.declared.Answer.{Answer}
+use Rattle.rules.specs.declared.Answer.the-variants.{Accepted}
 use Rattle.count.specs.Count.{withinLimits}
 
+-- the number that the chain gives where nothing else is asked
 abbrev pub limitsNumber : ℕ → ℕ → ℕ → ℕ
-limitsNumber policy k count =
-    cond (leb policies policy) badPolicy
-    (cond (not (isCapacity k)) badLimit
-    (cond (ltb references count) tooManyReferences
-    0))
+limitsNumber policy k count = numberOf (withinLimits policy k count Accepted)
 
 -- what is known where none of the three applies
 pub record Within (policy k count : ℕ) : Type 0 where
@@ -26,7 +24,8 @@ pub record Within (policy k count : ℕ) : Type 0 where
   pub few : count ≤ references
 
 module _ (policy k count : ℕ) (rest : Answer) where
-  pub limits-refused : (limitsNumber policy k count ≡ 0 → ⊥) → withinLimits policy k count rest ≡ refusal (limitsNumber policy k count) 0
+  pub limits-refused : (limitsNumber policy k count ≡ 0 → ⊥)
+      → withinLimits policy k count rest ≡ refusal (limitsNumber policy k count) 0
   limits-refused n =
       by-cases (leb policies policy) (λ a. rw a)
       (λ a. by-cases (isCapacity k)

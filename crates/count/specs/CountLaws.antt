@@ -66,7 +66,8 @@ module _ (trace : List ℕ) (policy k number : ℕ) (table : List ℕ) (checked 
             record { low = w .low; high = w .high; short = w .few; good = all-pages 0 trace (omega arith); within = omega arith }
 
         -- the hits of the plain caches in front, and behind them what stood there
-        pub count-filled : {after : List ℕ} → after ≡ hitsUpTo policy k trace ++ drop k table → Counted trace policy k table after Accepted
+        pub count-filled : {after : List ℕ} → after ≡ hitsUpTo policy k trace ++ drop k table
+            → Counted trace policy k table after Accepted
         unfolding countAnswer countTable
         count-filled e =
             let yes : countAnswer policy k (length table) trace ≡ Accepted =

@@ -54,7 +54,8 @@ module _ (trace : List ℕ) (policy k t number : ℕ) (checked : number ≡ limi
             let w = limits-within policy k (length trace) (sym checked ∙ passed) in
             record { low = w .low; high = w .high; short = w .few; good = all-pages 0 trace (omega arith); within = inside }
 
-        pub list-done : {run : Run} {places : List Page} → Ran policy trace k t run → places ≡ shownPlaces (run .length) (run .list)
+        pub list-done : {run : Run} {places : List Page} → Ran policy trace k t run
+            → places ≡ shownPlaces (run .length) (run .list)
             → Showing trace policy k t (record { answer = Accepted; length = run .length; places = places })
         unfolding listAnswer listShown listOf lengthAfter
         list-done {run} ran p =

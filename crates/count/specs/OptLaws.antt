@@ -29,7 +29,8 @@ ahead-start {trace} {memory} asked =
       near-is = rw (drop-length trace) (asked .clear);
     }
 
-pub ahead-page : {trace memory clear : List ℕ} → LookAhead trace memory clear → (j : ℕ) → j < length trace → getD trace j 0 < pages
+pub ahead-page : {trace memory clear : List ℕ} → LookAhead trace memory clear → (j : ℕ) → j < length trace
+    → getD trace j 0 < pages
 ahead-page {trace} asked j h = below-at pages trace j (asked .good) h
 
 module _ {trace memory clear found near : List ℕ} (asked : LookAhead trace memory clear) where
@@ -58,7 +59,8 @@ module _ {trace memory clear found near : List ℕ} (asked : LookAhead trace mem
       }
 
   pub ahead-next : (i : ℕ) → 0 < i → Ahead trace memory i found near
-      → Ahead trace memory (i - 1) (set found (i - 1) (getD near (getD trace (i - 1) 0) 0)) (set near (getD trace (i - 1) 0) (length trace - i + 1))
+      → Ahead trace memory (i - 1) (set found (i - 1) (getD near (getD trace (i - 1) 0) 0))
+      (set near (getD trace (i - 1) 0) (length trace - i + 1))
   ahead-next zero h a = absurd (omega arith)
   ahead-next (suc j) h a = rw (one-less j) (ahead-step j (a .left) a)
     where

@@ -28,7 +28,8 @@ pub count-unique : {trace before after after′ : List ℕ} {policy k : ℕ} {r 
     → Counted trace policy k before after′ r′ → (r ≡ r′) × (after ≡ after′)
 count-unique a b = (a .answer ∙ sym (b .answer), a .table ∙ sym (b .table))
 
-pub list-unique : {trace : List ℕ} {policy k t : ℕ} {r r′ : Listed} → Showing trace policy k t r → Showing trace policy k t r′ → r ≡ r′
+pub list-unique : {trace : List ℕ} {policy k t : ℕ} {r r′ : Listed} → Showing trace policy k t r → Showing trace policy k t r′
+    → r ≡ r′
 list-unique {r = r} {r′ = r′} a b =
     λ i. record {
       answer = (a .answer-is ∙ sym (b .answer-is)) i;
@@ -38,7 +39,8 @@ list-unique {r = r} {r′ = r′} a b =
 
 module _ {trace before after : List ℕ} {policy k : ℕ} where
   -- D2, D3: after an accepted count entry C-1 is the number of hits of the plain cache of C frames
-  pub entry-is-hits : Counted trace policy k before after Accepted → (c : ℕ) → c < k → getD after c 0 ≡ hitsAt policy (c + 1) trace
+  pub entry-is-hits : Counted trace policy k before after Accepted → (c : ℕ) → c < k
+      → getD after c 0 ≡ hitsAt policy (c + 1) trace
   unfolding countTable
   entry-is-hits p c h =
       let accepted : countAnswer policy k (length before) trace ≡ Accepted = sym (p .answer) in
@@ -91,7 +93,8 @@ module _ {trace : List ℕ} {policy k t : ℕ} {r : Listed} (p : Showing trace p
         let long : r .length ≡ length (listAfter (policyOf policy) k (reverse (take t trace)) (drop t trace)) = p .length-is ∙ rw yes in
         rw long (at-most (policyOf policy) (policy-order policy) k (reverse (take t trace)) (drop t trace))
 
-    -- D3: the pages in its first C places are those of the plain cache of C frames after t references, with the rest of the trace to come
+    -- D3: the pages in its first C places are those of the plain cache of C frames after t references, with the rest of the
+    -- trace to come
     pub listed-is-cache : (c : ℕ) → 1 ≤ c → c ≤ k → (page : ℕ)
         → holds page (take c (pagesShown (r .length) (r .places)))
         ≡ holds page (cacheAfter (policyOf policy) c (reverse (take t trace)) (drop t trace))

@@ -46,7 +46,8 @@ module _ {trace nexts ranks₀ : List ℕ} {policy k t : ℕ} (asked : Followabl
   pub run-start : Running policy k (before trace 0) (drop 0 trace) 0 (replicate capacities 0) (replicate (suc capacities) 0) ranks₀
   run-start = step.run-start policy k trace (asked .ranks-are)
 
-  module _ (i : ℕ) {n : ℕ} {places depths ranks : List ℕ} (run : Running policy k (before trace i) (drop i trace) n places depths ranks) where
+  module _ (i : ℕ) {n : ℕ} {places depths ranks : List ℕ}
+      (run : Running policy k (before trace i) (drop i trace) n places depths ranks) where
     pub run-end : i ≡ t → Ran policy trace k t (record { list = places; length = n; depths = depths })
     run-end e = record { ranks = ranks; running = rw e at run }
 

@@ -26,7 +26,8 @@ pub record Ran (policy : ℕ) (trace : List ℕ) (k t : ℕ) (r : Run) : Type 0 
   pub ranks : List ℕ
   pub running : Running policy k (before trace t) (drop t trace) (r .length) (r .list) (r .depths) ranks
 
--- before the first reference: the ranks are those of the run's start, and each reference's next rank was found if the policy asks for it
+-- before the first reference: the ranks are those of the run's start, and each reference's next rank was found if the policy
+-- asks for it
 pub record Followable (trace : List ℕ) (policy k t : ℕ) (nexts ranks : List ℕ) : Type 0 where
   pub fit : Fit trace k t
   pub ranks-are : ranks ≡ ranksAfter policy [] trace

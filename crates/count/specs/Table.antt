@@ -31,7 +31,8 @@ sum-at depths c total e h = e ∙ ap (upTo depths) (least c h)
     least : (c : ℕ) → c ≤ capacities → min c capacities ≡ c
     least c h = omega arith
 
-pub sum-fits : {depths hits : List ℕ} {k : ℕ} → Fillable depths k hits → (c total : ℕ) → total ≡ upTo depths (min c capacities) → c ≤ k
+pub sum-fits : {depths hits : List ℕ} {k : ℕ} → Fillable depths k hits → (c total : ℕ) → total ≡ upTo depths (min c capacities)
+    → c ≤ k
     → total ≤ references
 sum-fits {depths} {hits} {k} f c total e h =
     omega (arith, f .small, sum-at depths c total e (omega (arith, f .capacity)), upTo-grows depths c k h)

@@ -19,8 +19,8 @@ use Rattle.kept.specs.Entries.{entry}
 use Rattle.kept.specs.Rankings.{Ranking, unranked, frequency, sooner, rankingOf}
 use Rattle.kept.specs.Kept.{kept}
 use Rattle.kept.specs.Tally.{zeros-at}
-use Rattle.kept.specs.Frequencies.{frequencies, frequencies-length, frequency-is}
-use Rattle.kept.specs.Nexts.{coming-length, coming-is}
+use Rattle.kept.specs.Frequencies.{frequencies, frequency-is}
+use Rattle.kept.specs.Nexts.{coming-is}
 use Rattle.kept.specs.PastOnly.{list-past-only, tally-past-only, policy-past-only, ranking-past-only}
 use Rattle.kept.specs.Memory.{lengthAfter, padded, placesAfter, depthsAfter, ranksAfter, Running}
 
@@ -71,12 +71,6 @@ padded-over l m longer fits =
     ap (λ (tail : List ℕ). m ++ tail) behind
 
 -- the table has each page's rank
-pub ranks-length : (policy : ℕ) (past to : List ℕ) → length (ranksAfter policy past to) ≡ pages
-unfolding ranksAfter
-ranks-length policy past to =
-    by-cases (eqb policy lru) (λ e. rw e (length-replicate {A = ℕ} pages 0))
-    (λ e. by-cases (eqb policy lfu) (λ d. rw (e, d) (frequencies-length past)) (λ d. rw (e, d) (coming-length to)))
-
 pub rank-at : (policy : ℕ) (past to : List ℕ) → Below pages past → Below pages to → (p : ℕ)
     → getD (ranksAfter policy past to) p 0 ≡ rankingOf policy past to p
 unfolding ranksAfter rankingOf unranked frequency sooner

@@ -44,7 +44,8 @@ nexts-length [] = refl
 nexts-length (x ∷ to) = ap suc (nexts-length to)
 
 -- the entry at i is the nearness of that reference's page after it
-pub nexts-at : (trace : List ℕ) (i : ℕ) → i < length trace → getD (nexts trace) i 0 ≡ nearness (getD trace i 0) (drop (suc i) trace)
+pub nexts-at : (trace : List ℕ) (i : ℕ) → i < length trace
+    → getD (nexts trace) i 0 ≡ nearness (getD trace i 0) (drop (suc i) trace)
 unfolding nexts
 nexts-at [] i h = absurd (omega arith)
 nexts-at (x ∷ trace) zero h = refl

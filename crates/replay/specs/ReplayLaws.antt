@@ -61,7 +61,8 @@ pub along-alive : {s now : Session} {trace places depths counts : List ℕ} {i :
 along-alive {s} {trace = trace} {i = i} a =
     record { policy = s .policy; k = s .k; calls = before trace i; gives = a .gives }
 
-module _ {s now : Session} {trace places depths counts places′ depths′ counts′ : List ℕ} {i : ℕ} {r : Referenced} (few : length trace ≤ references)
+module _ {s now : Session} {trace places depths counts places′ depths′ counts′ : List ℕ} {i : ℕ} {r : Referenced}
+    (few : length trace ≤ references)
     (a : Along s trace i now places depths counts) (more : i < length trace)
     (done : Referring now (getD trace i 0) places depths counts places′ depths′ counts′ r) where
   so-far : acceptedOf (before trace i) ≡ before trace i
@@ -86,7 +87,8 @@ module _ {s now : Session} {trace places depths counts places′ depths′ count
         ahead = sym (first-bad-next trace i more page-fine) ∙ a .ahead;
       }
 
-  pub along-stop : refusedIn (r .depth) ≡ true → Followed s trace places′ depths′ counts′ (record { session = r .session; accepted = i })
+  pub along-stop : refusedIn (r .depth) ≡ true
+      → Followed s trace places′ depths′ counts′ (record { session = r .session; accepted = i })
   along-stop refused =
       let bad : pages ≤ getD trace i 0 =
       by-cases (leb pages (getD trace i 0)) (λ e. leb-true pages (getD trace i 0) e) (λ e. clash refused (ap refusedIn (answers false e))) in
@@ -95,7 +97,8 @@ module _ {s now : Session} {trace places depths counts places′ depths′ count
         gives = λ all. absurd (omega arith);
       }
 
-pub along-end : {s now : Session} {trace places depths counts : List ℕ} {i : ℕ} → Along s trace i now places depths counts → length trace ≤ i
+pub along-end : {s now : Session} {trace places depths counts : List ℕ} {i : ℕ} → Along s trace i now places depths counts
+    → length trace ≤ i
     → Followed s trace places depths counts (record { session = now; accepted = i })
 along-end {s} {trace = trace} {i = i} a end =
     let all : i ≡ length trace = omega (arith, a .inside) in
@@ -105,7 +108,8 @@ along-end {s} {trace = trace} {i = i} a end =
     }
 
 -- what is read at a capacity that the session has is the hits of the plain cache
-module _ {s : Session} {depths : List ℕ} {c : ℕ} {asked : Asked} (inside : c < s .k) (read : HitsRead s depths (c + 1) asked) where
+module _ {s : Session} {depths : List ℕ} {c : ℕ} {asked : Asked} (inside : c < s .k)
+    (read : HitsRead s depths (c + 1) asked) where
   number-is : (policy k : ℕ) (calls : List ℕ) → Value policy k calls s → Depths policy k calls depths
       → numberIn asked ≡ hitsNow policy (c + 1) calls
   number-is policy k calls v d =
@@ -153,7 +157,8 @@ module _ {s : Session} {places depths counts : List ℕ} (only-started : Fresh s
     pub drive-short : length table < s .k → Counted trace (s .policy) (s .k) table table (refusal shortTable 0)
     drive-short short = count-short trace (s .policy) (s .k) 0 table passed refl short
 
-    module _ (room : s .k ≤ length table) {places′ depths′ counts′ : List ℕ} {r : Run} (followed : Followed s trace places′ depths′ counts′ r) where
+    module _ (room : s .k ≤ length table) {places′ depths′ counts′ : List ℕ} {r : Run}
+        (followed : Followed s trace places′ depths′ counts′ r) where
       pub drive-bad : r .accepted < length trace → Counted trace (s .policy) (s .k) table table (refusal badPage (r .accepted))
       drive-bad bad = count-bad trace (s .policy) (s .k) 0 table passed refl room (r .accepted) (followed .accepted-is) bad
 
@@ -207,7 +212,8 @@ module _ {policy k : ℕ} {places depths counts places′ depths′ counts′ : 
         table = c .table ∙ rw (lt-leb opt policy (b .session)) (sym (accepted-twice (countAnswer policy k (length table) trace) _ table));
       }
 
-  pub replay-refused : (trace table : List ℕ) {x : Refusal} → answer ≡ started.Refused x → Replayed trace policy k table table (Refused x)
+  pub replay-refused : (trace table : List ℕ) {x : Refusal} → answer ≡ started.Refused x
+      → Replayed trace policy k table table (Refused x)
   unfolding replayAnswer replayTable countAnswer
   replay-refused trace table {x} e =
       let same : replayAnswer policy k (length table) trace ≡ Refused x = refused-start policy k (length trace) _ (not-begun p e) in

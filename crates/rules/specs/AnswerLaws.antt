@@ -11,6 +11,7 @@ pub not-accepted : {A : Type 0} {r : Refusal} → Refused r ≡ Accepted → A
 not-accepted e = let z : _≡_ {A = ℕ} 0 1 = cc in absurd (omega arith)
 
 -- asking twice whether a call was accepted is asking once
-pub accepted-twice : {A : Type 0} (answer : Answer) (a b : A) → whenAccepted answer (whenAccepted answer a b) b ≡ whenAccepted answer a b
+pub accepted-twice : {A : Type 0} (answer : Answer) (a b : A)
+    → whenAccepted answer (whenAccepted answer a b) b ≡ whenAccepted answer a b
 accepted-twice Accepted a b = refl
 accepted-twice (Refused r) a b = refl

@@ -32,7 +32,8 @@ first-bad-most i [] = omega arith
 first-bad-most i (p ∷ trace) =
     by-cases (leb pages p) (λ e. rw e (omega arith)) (λ e. rw e (omega (arith, first-bad-most (suc i) trace)))
 
-pub first-bad-none : (i : ℕ) (trace : List ℕ) (rest : Answer) → i + length trace ≤ firstBad i trace → firstBadPage i trace rest ≡ rest
+pub first-bad-none : (i : ℕ) (trace : List ℕ) (rest : Answer) → i + length trace ≤ firstBad i trace
+    → firstBadPage i trace rest ≡ rest
 unfolding firstBad firstBadPage
 first-bad-none i [] rest h = refl
 first-bad-none i (p ∷ trace) rest h =

@@ -36,7 +36,8 @@ depthAs Accepted d = depths.Accepted d
 depthAs (Refused r) d = depths.Refused r
 
 -- a reference answers its depth, and gives the session with one call more
-pub record Referring (s : Session) (page : ℕ) (places depths counts places′ depths′ counts′ : List ℕ) (r : Referenced) : Type 0 where
+pub record Referring (s : Session) (page : ℕ) (places depths counts places′ depths′ counts′ : List ℕ)
+    (r : Referenced) : Type 0 where
   pub answer : (policy k : ℕ) (calls : List ℕ) → Gives policy k calls s places depths counts
       → r .depth ≡ depthAs (referenceAnswer (acceptedOf calls) page) (depthOf policy k calls page)
   pub next : (policy k : ℕ) (calls : List ℕ) → Gives policy k calls s places depths counts

@@ -28,7 +28,8 @@ use Rattle.session.specs.Reads.{ListRead, ReferencesRead, HitsRead, Miss
 use Rattle.session.specs.Promises.{gives-unique}
 
 -- a call that adds nothing to the references accepted leaves the session and its tables as they were
-same-accepted : {policy k page : ℕ} {calls : List ℕ} {s s′ : Session} {p d c p′ d′ c′ : List ℕ} → acceptedOf (page ∷ calls) ≡ acceptedOf calls
+same-accepted : {policy k page : ℕ} {calls : List ℕ} {s s′ : Session} {p d c p′ d′ c′ : List ℕ}
+    → acceptedOf (page ∷ calls) ≡ acceptedOf calls
     → Gives policy k calls s p d c → Gives policy k (page ∷ calls) s′ p′ d′ c′ → (s′ ≡ s) × (p′ ≡ p) × (d′ ≡ d) × (c′ ≡ c)
 same-accepted {policy} {k} e a b =
     gives-unique
@@ -78,7 +79,8 @@ module _ {policy k page : ℕ} {calls : List ℕ} {s : Session} {p q n p′ q′
           absurd (omega arith)
 
 module _ {policy k : ℕ} {calls : List ℕ} {s : Session} (v : Value policy k calls s) where
-  -- of a list that was read: its length is at most K, it shows 0 past it, and (D3) the pages in its first C places are those of the
+  -- of a list that was read: its length is at most K, it shows 0 past it, and (D3) the pages in its first C places are those
+  -- of the
   -- plain cache of C frames after the references accepted
   module _ {places : List ℕ} (stand : Places policy k calls places) {r : Listing} (read : ListRead s places r) where
     long : r .length ≡ length (listNow policy k calls)
@@ -100,7 +102,8 @@ module _ {policy k : ℕ} {calls : List ℕ} {s : Session} (v : Value policy k c
         rw (long, shown, shown-back (listNow policy k calls))
         (list-is-cache (policyOf policy) (policy-order policy) c k low high (acceptedOf calls) [] page)
 
-  -- of numbers that were read at a capacity: the hits are those of a whole trace with the same references, and (A5) hits and misses
+  -- of numbers that were read at a capacity: the hits are those of a whole trace with the same references, and (A5) hits and
+  -- misses
   -- add up to the references accepted
   module _ {depths : List ℕ} (tallied : Depths policy k calls depths) {c h : ℕ} (low : 1 ≤ c) (high : c ≤ k)
       (hits : HitsRead s depths c (Number h)) where

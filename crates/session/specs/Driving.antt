@@ -51,7 +51,8 @@ module _ {policy k : ℕ} {places depths counts places′ depths′ counts′ : 
   pub alive-begun : {s : Session} → r ≡ Begun s → Alive s places′ depths′ counts′
   alive-begun e = record { policy = policy; k = k; calls = []; gives = begun-gives e }
 
-pub alive-next : {s : Session} {page : ℕ} {places depths counts places′ depths′ counts′ : List ℕ} {r : Referenced} → Alive s places depths counts
+pub alive-next : {s : Session} {page : ℕ} {places depths counts places′ depths′ counts′ : List ℕ} {r : Referenced}
+    → Alive s places depths counts
     → Referring s page places depths counts places′ depths′ counts′ r → Alive (r .session) places′ depths′ counts′
 alive-next {s} {page} a p =
     record { policy = a .policy; k = a .k; calls = page ∷ a .calls; gives = p .next (a .policy) (a .k) (a .calls) (a .gives) }

@@ -1,4 +1,5 @@
--- A session's promises pin their whole answers: the state is a function of the history, and two answers that both meet a promise are
+-- A session's promises pin their whole answers: the state is a function of the history, and two answers that both meet a
+-- promise are
 -- equal.
 use Prim.Native.Nat.{ℕ}
 use mathlib.Core.Path.{_≡_, sym, _∙_}
@@ -58,10 +59,12 @@ pub references-read-unique : {s : Session} {r₁ r₂ : ℕ} → Valued s → Re
 references-read-unique a f g =
     f .references-are (a .policy) (a .k) (a .calls) (a .value) ∙ sym (g .references-are (a .policy) (a .k) (a .calls) (a .value))
 
-pub hits-read-unique : {s : Session} {d : List ℕ} {c : ℕ} {r₁ r₂ : Asked} → Counting s d → HitsRead s d c r₁ → HitsRead s d c r₂ → r₁ ≡ r₂
+pub hits-read-unique : {s : Session} {d : List ℕ} {c : ℕ} {r₁ r₂ : Asked} → Counting s d → HitsRead s d c r₁ → HitsRead s d c r₂
+    → r₁ ≡ r₂
 hits-read-unique a f g =
     f .hits-are (a .policy) (a .k) (a .calls) (a .value) (a .tallied) ∙ sym (g .hits-are (a .policy) (a .k) (a .calls) (a .value) (a .tallied))
 
-pub misses-read-unique : {s : Session} {d : List ℕ} {c : ℕ} {r₁ r₂ : Asked} → Counting s d → MissesRead s d c r₁ → MissesRead s d c r₂ → r₁ ≡ r₂
+pub misses-read-unique : {s : Session} {d : List ℕ} {c : ℕ} {r₁ r₂ : Asked} → Counting s d → MissesRead s d c r₁
+    → MissesRead s d c r₂ → r₁ ≡ r₂
 misses-read-unique a f g =
     f .misses-are (a .policy) (a .k) (a .calls) (a .value) (a .tallied) ∙ sym (g .misses-are (a .policy) (a .k) (a .calls) (a .value) (a .tallied))

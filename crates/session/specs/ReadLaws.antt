@@ -31,17 +31,20 @@ use Rattle.session.specs.Reads.{ListRead, HitsRead, MissesRead, askedAs}
 use Rattle.session.specs.ReferLaws.{start-bounds, accepted-below}
 
 -- 7 is answered exactly if the capacity is not 1 to K
-low-refused : (k c : ℕ) (n : ℕ) → c < 1 → asked.Refused (record { number = badCapacity; place = 0 }) ≡ askedAs (capacityAnswer k c) n
+low-refused : (k c : ℕ) (n : ℕ) → c < 1
+    → asked.Refused (record { number = badCapacity; place = 0 }) ≡ askedAs (capacityAnswer k c) n
 low-refused k c n h = rw (lt-leb 1 c h)
 
-high-refused : (k c : ℕ) (n : ℕ) → 1 ≤ c → k < c → asked.Refused (record { number = badCapacity; place = 0 }) ≡ askedAs (capacityAnswer k c) n
+high-refused : (k c : ℕ) (n : ℕ) → 1 ≤ c → k < c
+    → asked.Refused (record { number = badCapacity; place = 0 }) ≡ askedAs (capacityAnswer k c) n
 high-refused k c n l h = rw (le-leb 1 c l, lt-leb c k h)
 
 answered : (k c : ℕ) (n : ℕ) → 1 ≤ c → c ≤ k → asked.Number n ≡ askedAs (capacityAnswer k c) n
 answered k c n l h = rw (le-leb 1 c l, le-leb c k h)
 
 -- the sum of the depths is the hits of the plain cache
-sum-is-hits : {policy k : ℕ} {calls : List ℕ} {s : Session} {depths : List ℕ} → Value policy k calls s → Depths policy k calls depths
+sum-is-hits : {policy k : ℕ} {calls : List ℕ} {s : Session} {depths : List ℕ} → Value policy k calls s
+    → Depths policy k calls depths
     → (c total : ℕ) → 1 ≤ c → c ≤ s .k → total ≡ upTo depths (min c capacities) → total ≡ hitsNow policy c calls
 unfolding depthsAfter
 sum-is-hits {policy} {k} {calls} {s} {depths} v d c total l h t =

@@ -19,7 +19,8 @@ askedAs Accepted n = asked.Number n
 askedAs (Refused r) n = asked.Refused r
 
 pub record ListRead (s : Session) (places : List ℕ) (r : Listing) : Type 0 where
-  pub length-is : (policy k : ℕ) (calls : List ℕ) → Value policy k calls s → Places policy k calls places → r .length ≡ length (listNow policy k calls)
+  pub length-is : (policy k : ℕ) (calls : List ℕ) → Value policy k calls s → Places policy k calls places
+      → r .length ≡ length (listNow policy k calls)
   pub places-are : (policy k : ℕ) (calls : List ℕ) → Value policy k calls s → Places policy k calls places
       → r .places ≡ placesOf (listNow policy k calls)
 

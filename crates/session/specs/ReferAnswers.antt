@@ -18,7 +18,8 @@ use Rattle.session.specs.ReferLaws.{accepted-full, accepted-bad}
 use Rattle.session.specs.SessionLaws.{advanced, refer-depth, refer-gives}
 
 -- a refused reference is not part of the history: the same session stands, with one call more
-same-gives : {policy k : ℕ} {calls : List ℕ} {s : Session} {places depths counts : List ℕ} (page : ℕ) → acceptedOf (page ∷ calls) ≡ acceptedOf calls
+same-gives : {policy k : ℕ} {calls : List ℕ} {s : Session} {places depths counts : List ℕ} (page : ℕ)
+    → acceptedOf (page ∷ calls) ≡ acceptedOf calls
     → Gives policy k calls s places depths counts → Gives policy k (page ∷ calls) s places depths counts
 same-gives page e g =
     record {

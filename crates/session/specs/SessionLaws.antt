@@ -24,7 +24,8 @@ abbrev pub advanced : Session → Step → Session
 advanced s step = record { policy = s .policy; k = s .k; length = step .length; references = s .references + 1 }
 
 -- what a session holds is a run
-pub running : {policy k : ℕ} {calls : List ℕ} {s : Session} {places depths counts : List ℕ} → Gives policy k calls s places depths counts
+pub running : {policy k : ℕ} {calls : List ℕ} {s : Session} {places depths counts : List ℕ}
+    → Gives policy k calls s places depths counts
     → Running policy k (acceptedOf calls) [] (s .length) places depths counts
 unfolding lengthAfter
 running g =
@@ -35,7 +36,8 @@ running g =
       ranks-are = g .counted .counts-are;
     }
 
-module _ {policy k : ℕ} {calls : List ℕ} {s : Session} {places depths counts : List ℕ} (g : Gives policy k calls s places depths counts)
+module _ {policy k : ℕ} {calls : List ℕ} {s : Session} {places depths counts : List ℕ}
+    (g : Gives policy k calls s places depths counts)
     (page : ℕ) (room : s .references < references) (fine : page < pages) {places′ depths′ counts′ : List ℕ} {step : Step}
     (done : Referred policy page 0 (s .length) k places depths counts places′ depths′ counts′ step) where
   abbrev past : List ℕ

@@ -99,7 +99,8 @@ pub fn start(
     })
 }
 
-// One reference. An accepted one answers its depth, or 0 if the page was not in the list; a refused one leaves everything as it is.
+// One reference. An accepted one answers its depth, or 0 if the page was not in the list; a refused one leaves everything as
+// it is.
 pub fn refer(
     s: Session,
     page: Page,

@@ -1,4 +1,5 @@
--- Carrying under LRU: what is carried always stays at the next place, so the first entry goes before all and the old one is taken out.
+-- Carrying under LRU: what is carried always stays at the next place, so the first entry goes before all and the old one is
+-- taken out.
 use Prim.Native.Nat.{ℕ, zero, suc, _+_, _-_, _≤_, _<_}
 use native.Mathlib.Omega.{arith}
 use native.Mathlib.Numerals.{add-one}
@@ -26,7 +27,8 @@ found-inside old {d} l e p = omega (arith, e, depth-most 0 old l)
 
 -- under LRU carrying puts the first entry before all, and takes the old one out
 module _ (old : ℕ) where
-  carry-out : (s i y : ℕ) (l : List ℕ) → depthFrom (suc s) old l ≡ suc s + i → carry always old y l ≡ y ∷ (take i l ++ drop (suc i) l)
+  carry-out : (s i y : ℕ) (l : List ℕ) → depthFrom (suc s) old l ≡ suc s + i
+      → carry always old y l ≡ y ∷ (take i l ++ drop (suc i) l)
   unfolding carry always depthFrom
   carry-out s i y [] h = absurd (omega arith)
   carry-out s zero y (z ∷ l) h =
@@ -43,7 +45,8 @@ module _ (old : ℕ) where
   carry-on s y (z ∷ l) h = by-cases (eqb z old) (λ e. absurd (omega (arith, rw e at h))) (λ e. rw (e, carry-on (suc s) z l (rw e at h)))
 
   pub carried-found : {first d : ℕ} {l after : List ℕ} → d ≡ depth old l → 0 < d
-      → after ≡ first ∷ (take (d - 1) l ++ drop (d - 1 + 1) l) → Carrying always old first l after (record { depth = d; last = 0 })
+      → after ≡ first ∷ (take (d - 1) l ++ drop (d - 1 + 1) l)
+      → Carrying always old first l after (record { depth = d; last = 0 })
   carried-found {first} {d} {l} {after} e p a =
       let whole : carry always old first l ≡ first ∷ (take (d - 1) l ++ drop (suc (d - 1)) l) = carry-out 0 (d - 1) first l (sym e ∙ omega arith) in
       let most : d ≤ length l = omega (arith, e, depth-most 0 old l) in

@@ -35,7 +35,8 @@ shift-places {entry} {before} h =
     }
 
 -- a depth is no more than there are places
-pub part-depth : {above : Priority} {old first : ℕ} {l after : List ℕ} {r : Carried} → Carrying above old first l after r → r .depth ≤ length l
+pub part-depth : {above : Priority} {old first : ℕ} {l after : List ℕ} {r : Carried} → Carrying above old first l after r
+    → r .depth ≤ length l
 part-depth {above} {old} {first} {l} w = omega (arith, w .depth-is, depth-most 0 old l)
 
 -- the list after place 1

@@ -47,7 +47,8 @@ module _ {before : List ℕ} {to : ℕ} (h : to < length before) where
         split = rw (m .split, front, append-assoc (take j before) (v ∷ []) (m .moved));
       }
 
-  pub moving-next : {now : List ℕ} (i : ℕ) → 0 < i → Moving before to i now → Moving before to (i - 1) (set now i (getD now (i - 1) 0))
+  pub moving-next : {now : List ℕ} (i : ℕ) → 0 < i → Moving before to i now
+      → Moving before to (i - 1) (set now i (getD now (i - 1) 0))
   moving-next zero p m = absurd (omega arith)
   moving-next {now} (suc j) p m = let e : suc j - 1 ≡ j = omega arith in rw e (moving-down j m)
 

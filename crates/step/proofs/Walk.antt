@@ -38,7 +38,8 @@ module _ {above : Priority} {old first : ℕ} {before : List ℕ} where
 
       -- the old entry is not here: one entry stays, the other is carried on
       pub walk-next : (getD now i 0 ≡ old → ⊥)
-          → Walk above old first before (lower above carried (getD now i 0)) (i + 1) (set now i (higher above carried (getD now i 0)))
+          → Walk above old first before (lower above carried (getD now i 0)) (i + 1)
+          (set now i (higher above carried (getD now i 0)))
       unfolding carry depthFrom
       walk-next n =
           let here : ℕ = getD before i 0 in

@@ -60,11 +60,13 @@ module _ (policy page : ℕ) (past to : List ℕ) (fine : page < pages) (good : 
         (λ e. by-cases (eqb policy lfu) (λ d. rw (e, d) (counted e d ∙ sym (times-again page past)))
         (λ d. rw (e, d) (looked e d)))
 
-    more : eqb policy lru ≡ false → eqb policy lfu ≡ true → set table page (times page past + 1) ≡ ranksAfter policy (page ∷ past) to
+    more : eqb policy lru ≡ false → eqb policy lfu ≡ true
+        → set table page (times page past + 1) ≡ ranksAfter policy (page ∷ past) to
     unfolding ranksAfter frequencies bump
     more e d = rw (e, d, frequency-is past good page)
 
-    fewer : eqb policy lru ≡ false → eqb policy lfu ≡ false → set table page (nearness page to) ≡ ranksAfter policy (page ∷ past) to
+    fewer : eqb policy lru ≡ false → eqb policy lfu ≡ false
+        → set table page (nearness page to) ≡ ranksAfter policy (page ∷ past) to
     unfolding ranksAfter coming
     fewer e d =
         rw (

@@ -44,7 +44,8 @@ unfolding lengthAfter placesAfter padded depthsAfter kept listAfter tally
 run-start policy k to e = record { length-is = refl; places-are = refl; depths-are = refl; ranks-are = e }
 
 -- the list and the depth after a reference, in memory that holds the run's entries
-module _ (policy k : ℕ) (low : 1 ≤ k) (high : k ≤ capacities) (page : ℕ) (past to : List ℕ) (fine : page < 65536) (good : Fits past) where
+module _ (policy k : ℕ) (low : 1 ≤ k) (high : k ≤ capacities) (page : ℕ) (past to : List ℕ) (fine : page < 65536)
+    (good : Fits past) where
   abbrev now-entries : List ℕ
   now-entries = kept (rankingOf policy) (policyOf policy) k past (page ∷ to)
 
@@ -100,7 +101,8 @@ depths-after policy k d past to h few =
     omega (arith, tally-most (policyOf policy) k d past to) in
     rw (lt-ltb d (suc capacities) (omega arith), came)
 
-module _ {policy k : ℕ} (low : 1 ≤ k) (high : k ≤ capacities) {page next n : ℕ} {past to : List ℕ} (fine : page < pages) (good : Below pages past)
+module _ {policy k : ℕ} (low : 1 ≤ k) (high : k ≤ capacities) {page next n : ℕ} {past to : List ℕ} (fine : page < pages)
+    (good : Below pages past)
     (ahead : Below pages to) (few : length past < references) (looks : LooksAhead policy next page to)
     {places depths ranks places′ depths′ ranks′ : List ℕ} {s : Step}
     (run : Running policy k past (page ∷ to) n places depths ranks)
@@ -140,7 +142,8 @@ module _ {policy k : ℕ} (low : 1 ≤ k) (high : k ≤ capacities) {page next n
       }
 
 -- the list of a run is shown; this asks of the memory only what it looks at
-pub run-shown : (policy k : ℕ) (past to : List ℕ) {n : ℕ} {places : List ℕ} {shown : List Page} → k ≤ capacities → Below pages past
+pub run-shown : (policy k : ℕ) (past to : List ℕ) {n : ℕ} {places : List ℕ} {shown : List Page} → k ≤ capacities
+    → Below pages past
     → n ≡ lengthAfter policy k past to → places ≡ placesAfter policy k past to → shown ≡ shownPlaces n places
     → shown ≡ placesOf (listAfter (policyOf policy) k past to)
 unfolding placesAfter kept

@@ -43,7 +43,8 @@ placesOf-room l h =
     let one : capacities - length l ≡ suc (capacities - suc (length l)) = omega arith in
     rw one
 
-placesOf-snoc : (l : List ℕ) (x : ℕ) → placesOf (l ++ (x ∷ [])) ≡ map page l ++ (page x ∷ replicate (capacities - suc (length l)) (page 0))
+placesOf-snoc : (l : List ℕ) (x : ℕ)
+    → placesOf (l ++ (x ∷ [])) ≡ map page l ++ (page x ∷ replicate (capacities - suc (length l)) (page 0))
 unfolding placesOf
 placesOf-snoc l x =
     rw (
@@ -76,7 +77,8 @@ unfolding shownPlaces
 shown-end n memory places i u e = rw (← u) e
 
 -- where no more entries are in use than there are places, all of them are shown
-pub shown-all : (n : ℕ) (memory : List ℕ) → n ≤ capacities → length memory ≡ capacities → shownPlaces n memory ≡ placesOf (map pageOf (take n memory))
+pub shown-all : (n : ℕ) (memory : List ℕ) → n ≤ capacities → length memory ≡ capacities
+    → shownPlaces n memory ≡ placesOf (map pageOf (take n memory))
 unfolding shownPlaces
 shown-all n memory h room =
     let all : min (min n (length memory)) capacities ≡ n = omega arith in

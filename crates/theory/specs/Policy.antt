@@ -17,7 +17,8 @@ unfoldable pub smaller : Priority
 smaller a b = ltb a b
 
 -- How many references there are from the first p in the list to the list's end; 0 if p is not there.
--- On `past` this is the moment of p's last reference; on `to` it is more the sooner p comes again.
+-- On `past` this is the moment of p's last reference; on `to` it is more the sooner p comes again. PolicyWords.antt says in words what
+-- it makes of two pages.
 unfoldable pub nearness : ℕ → List ℕ → ℕ
 nearness p [] = 0
 nearness p (z ∷ l) = cond (eqb z p) (suc (length l)) (nearness p l)

@@ -73,15 +73,16 @@ module _ (policy : Policy) (o : Orders policy) where
   hits-by-depth c k low high (x ∷ past) to =
       rw (hits-by-depth c k low high past (x ∷ to), hit-by-depth c k low high x past (x ∷ to))
 
-  -- 4. small caches are included in large ones
+  -- 3. small caches are included in large ones
   pub inclusion : (c d : ℕ) → 1 ≤ c → c ≤ d → (past to : List ℕ) (p : ℕ)
       → holds p (cacheAfter policy c past to) ≡ true → holds p (cacheAfter policy d past to) ≡ true
   inclusion c d low high past to p h =
       rw (← list-is-cache d d (omega arith) (omega arith) past to p)
       (holds-more p c d (listAfter policy d past to) high (list-is-cache c d low high past to p ∙ h))
 
--- A5: hits and misses add up to the references, for any policy
-pub hits-and-misses : (policy : Policy) (c : ℕ) (past to : List ℕ) → hitsAfter policy c past to + missesAfter policy c past to ≡ length past
+-- 4. A5: hits and misses add up to the references, for any policy
+pub hits-and-misses : (policy : Policy) (c : ℕ) (past to : List ℕ)
+    → hitsAfter policy c past to + missesAfter policy c past to ≡ length past
 unfolding hitsAfter missesAfter one
 hits-and-misses policy c [] to = refl
 hits-and-misses policy c (x ∷ past) to =
