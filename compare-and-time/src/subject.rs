@@ -1,9 +1,9 @@
 //! What the harness asks of a library, subject by subject. The proved library answers through `ffi`, the plain Rust
-//! versions directly, and both are held to the model.
+//! versions directly, and both are held to the simulator.
 
-use crate::model::file::File;
-use crate::model::row::Call;
-use crate::model::Refusal;
+use crate::simulator::file::File;
+use crate::simulator::row::Call;
+use crate::simulator::Refusal;
 
 pub trait Counts {
     /// Writes to the table as the library does.

@@ -1,4 +1,4 @@
-//! The marked cases P1 to P12 of docs/RULES.md and the sample report, on the model itself: the other side of every
+//! The marked cases P1 to P12 of docs/RULES.md and the sample report, on the simulator itself: the other side of every
 //! comparison has to be right first.
 
 use super::file::report;

@@ -1,7 +1,7 @@
 //! Frame rows: long random sequences of calls, with the answer, the slots examined, the victim and the whole row.
 
 use super::{same, Subject, Tally};
-use crate::model::row::{Call, Row, CALLS};
+use crate::simulator::row::{Call, Row, CALLS};
 use crate::rng::Rng;
 use crate::subject::Rows;
 

@@ -1,8 +1,8 @@
 //! The plain Rust versions as subjects: a baseline that answers something else is no baseline.
 
-use crate::check::{row, session, trace, Subject};
-use crate::model::row::{Call, CALLS};
-use crate::model::{refusal, Refusal};
+use crate::compare::{row, session, trace, Subject};
+use crate::simulator::row::{Call, CALLS};
+use crate::simulator::{refusal, Refusal};
 use crate::plain;
 use crate::subject::{Counts, Picture, Rows, Sessions};
 

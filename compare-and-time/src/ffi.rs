@@ -1,7 +1,7 @@
 //! The functions of crates/exports, declared as that crate has them. Nothing checks these lines against it, so they are
 //! kept few and in its order.
 
-use crate::model::Refusal;
+use crate::simulator::Refusal;
 
 /// An answer in numbers: 0, or the number of a refusal, and its place.
 #[repr(C)]

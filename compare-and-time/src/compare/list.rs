@@ -2,7 +2,7 @@
 
 use super::{same, same_list, Subject, Tally};
 use crate::gen;
-use crate::model::trace::{list, list_faults};
+use crate::simulator::trace::{list, list_faults};
 use crate::rng::Rng;
 use crate::subject::Lists;
 

@@ -2,8 +2,8 @@
 
 use super::{same, same_list, Subject, Tally};
 use crate::gen;
-use crate::model::session::{start, start_faults, Session};
-use crate::model::REFERENCES;
+use crate::simulator::session::{start, start_faults, Session};
+use crate::simulator::REFERENCES;
 use crate::rng::Rng;
 use crate::subject::Sessions;
 

@@ -2,7 +2,7 @@
 
 use super::{same, Subject, Tally};
 use crate::gen;
-use crate::model::file::{faults, read, report};
+use crate::simulator::file::{faults, read, report};
 use crate::rng::Rng;
 use crate::subject::{Files, Reports};
 

@@ -1,4 +1,4 @@
-//! Compares a library with the model on random inputs, case by case; a case is made from the seed, the subject and its
+//! Compares a library with the simulator on random inputs, case by case; a case is made from the seed, the subject and its
 //! number alone, so that any of them can be run again by itself.
 
 pub mod file;
@@ -7,7 +7,7 @@ pub mod row;
 pub mod session;
 pub mod trace;
 
-use crate::model::Refusal;
+use crate::simulator::Refusal;
 use crate::rng::Rng;
 use std::collections::{BTreeMap, BTreeSet};
 use std::fmt::Debug;
@@ -43,7 +43,7 @@ pub fn same<T: PartialEq + Debug>(what: &str, got: T, want: T) -> Result<(), Str
     if got == want {
         return Ok(());
     }
-    Err(format!("{what}: the library says {got:?}, the model {want:?}"))
+    Err(format!("{what}: the library says {got:?}, the simulator {want:?}"))
 }
 
 /// A list as a library shows it: its length, and 0 past it (rule A6).
@@ -64,7 +64,7 @@ struct Again {
 impl Again {
     fn text(&self) -> String {
         let Again { name, seed, case } = self;
-        format!("{name}: case {case} FAILED; run it again: bench/check {name} --seed {seed} --only {case}")
+        format!("{name}: case {case} FAILED; run it again: compare-and-time/compare {name} --seed {seed} --only {case}")
     }
 }
 

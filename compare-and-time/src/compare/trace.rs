@@ -2,7 +2,7 @@
 
 use super::{same, Subject, Tally};
 use crate::gen;
-use crate::model::trace::{count, count_faults};
+use crate::simulator::trace::{count, count_faults};
 use crate::rng::Rng;
 use crate::subject::Counts;
 

@@ -1,6 +1,6 @@
 //! Random traces of five kinds, and the lengths, limits and damage that random calls are made with.
 
-use crate::model::{CAPACITIES, PAGES, REFERENCES};
+use crate::simulator::{CAPACITIES, PAGES, REFERENCES};
 use crate::rng::Rng;
 
 #[derive(Clone, Copy, Debug)]

@@ -1,9 +1,9 @@
 //! The harness: compares the proved functions with an independent simulator, and times them beside plain Rust.
 
-mod check;
+mod compare;
 mod ffi;
 mod gen;
-mod model;
+mod simulator;
 mod of_plain;
 mod of_proved;
 mod plain;
@@ -11,13 +11,13 @@ mod rng;
 mod subject;
 mod time;
 
-use check::Subject;
+use compare::Subject;
 use std::io::Write;
 use std::process::exit;
 use std::time::Instant;
 
 const USAGE: &str = "usage:
-  harness check [SUBJECT] [--full] [--seed N] [--only K] [--plain]
+  harness compare [SUBJECT] [--full] [--seed N] [--only K] [--plain]
   harness time
 
 SUBJECT is trace, list, session, row, file or report; without one all are checked. --full is the long round, --only runs one case
@@ -26,7 +26,7 @@ of a subject again, and --plain checks the plain Rust versions in place of the p
 fn main() {
     let words: Vec<String> = std::env::args().skip(1).collect();
     let ended = match words.first().map(String::as_str) {
-        Some("check") => Wanted::from(&words[1..]).and_then(|wanted| wanted.run()),
+        Some("compare") => Wanted::from(&words[1..]).and_then(|wanted| wanted.run()),
         Some("time") if words.len() == 1 => {
             let mut lines = time::whole_traces::<of_proved::Proved, of_plain::Plain>();
             lines.extend(time::sessions::<of_proved::Session, plain::session::Session>());
@@ -42,7 +42,7 @@ fn main() {
     }
 }
 
-/// What `harness check` was asked for.
+/// What `harness compare` was asked for.
 #[derive(Default)]
 struct Wanted {
     subject: Option<String>,
@@ -78,7 +78,7 @@ impl Wanted {
         if subjects.is_empty() || self.only.is_some() && subjects.len() > 1 {
             return Err(USAGE.to_string());
         }
-        model::marked::hold();
+        simulator::marked::hold();
         println!("seed {}", self.seed);
         subjects.iter().try_for_each(|subject| self.round(subject))
     }

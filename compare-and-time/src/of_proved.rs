@@ -1,10 +1,10 @@
 //! The proved library as a subject: each call is one exported function.
 
-use crate::check::{file, list, row, session, trace, Subject};
+use crate::compare::{file, list, row, session, trace, Subject};
 use crate::ffi;
-use crate::model::file::File;
-use crate::model::row::Call;
-use crate::model::Refusal;
+use crate::simulator::file::File;
+use crate::simulator::row::Call;
+use crate::simulator::Refusal;
 use crate::subject::{Counts, Files, Lists, Picture, Reports, Rows, Sessions};
 
 pub fn subjects() -> Vec<Subject> {

@@ -2,8 +2,8 @@
 //! right after the other, and of those the median.
 
 use crate::gen::{self, Kind};
-use crate::model::row::{Call, Row, CALLS};
-use crate::model::REFERENCES;
+use crate::simulator::row::{Call, Row, CALLS};
+use crate::simulator::REFERENCES;
 use crate::rng::Rng;
 use crate::subject::{Counts, Rows, Sessions};
 use std::hint::black_box;
