@@ -3,11 +3,11 @@
 mod compare;
 mod ffi;
 mod gen;
-mod simulator;
 mod of_plain;
 mod of_proved;
 mod plain;
 mod rng;
+mod simulator;
 mod subject;
 mod time;
 
@@ -17,24 +17,33 @@ use std::process::exit;
 use std::time::Instant;
 
 const USAGE: &str = "usage:
-  harness compare [SUBJECT] [--full] [--seed N] [--only K] [--plain]
-  harness time
+  compare-and-time/compare [SUBJECT] [--full] [--seed N] [--only N] [--plain]
+  compare-and-time/compare report FILE
+  compare-and-time/time [--keep] [--no-gate]
 
-SUBJECT is trace, list, session, row, file or report; without one all are checked. --full is the long round, --only runs one case
-of a subject again, and --plain checks the plain Rust versions in place of the proved ones.";
+Without a SUBJECT all are compared. --full is the long round, --only runs one case of a subject again, and --plain holds the
+plain Rust versions to the simulator in place of the proved ones. `report` prints what the simulator says of a trace file.
+SUBJECT is one of";
+
+fn usage() -> String {
+    let names: Vec<&str> = of_proved::subjects().iter().map(|subject| subject.name).collect();
+    format!("{USAGE} {}.", names.join(", "))
+}
 
 fn main() {
     let words: Vec<String> = std::env::args().skip(1).collect();
-    let ended = match words.first().map(String::as_str) {
-        Some("compare") => Wanted::from(&words[1..]).and_then(|wanted| wanted.run()),
-        Some("time") if words.len() == 1 => {
+    let words: Vec<&str> = words.iter().map(String::as_str).collect();
+    let ended = match words[..] {
+        ["compare", "report", file] => report(file),
+        ["compare", ..] => Wanted::from(&words[1..]).and_then(|wanted| wanted.run()),
+        ["time"] => {
             let mut lines = time::whole_traces::<of_proved::Proved, of_plain::Plain>();
             lines.extend(time::sessions::<of_proved::Session, plain::session::Session>());
             lines.extend(time::rows::<of_proved::Row, plain::row::Row>());
             print!("{}", time::table(&lines));
             Ok(())
         }
-        _ => Err(USAGE.to_string()),
+        _ => Err(usage()),
     };
     if let Err(fault) = ended {
         eprintln!("{fault}");
@@ -42,7 +51,14 @@ fn main() {
     }
 }
 
-/// What `harness compare` was asked for.
+/// Prints what the program `report` has to print of a file.
+fn report(file: &str) -> Result<(), String> {
+    let bytes = std::fs::read(file).map_err(|fault| format!("{file}: {fault}"))?;
+    print!("{}", simulator::file::report(&bytes));
+    Ok(())
+}
+
+/// What `compare` was asked for.
 #[derive(Default)]
 struct Wanted {
     subject: Option<String>,
@@ -53,18 +69,18 @@ struct Wanted {
 }
 
 impl Wanted {
-    fn from(words: &[String]) -> Result<Wanted, String> {
+    fn from(words: &[&str]) -> Result<Wanted, String> {
         let mut wanted = Wanted { seed: 1, ..Wanted::default() };
         let mut words = words.iter();
-        while let Some(word) = words.next() {
-            let mut number = || words.next().and_then(|word| word.parse().ok()).ok_or(USAGE.to_string());
-            match word.as_str() {
+        while let Some(&word) = words.next() {
+            let mut number = || words.next().and_then(|word| word.parse().ok()).ok_or_else(usage);
+            match word {
                 "--full" => wanted.full = true,
                 "--plain" => wanted.plain = true,
                 "--seed" => wanted.seed = number()?,
                 "--only" => wanted.only = Some(number()?),
                 name if wanted.subject.is_none() && !name.starts_with('-') => wanted.subject = Some(name.to_string()),
-                _ => return Err(USAGE.to_string()),
+                _ => return Err(usage()),
             }
         }
         Ok(wanted)
@@ -76,7 +92,7 @@ impl Wanted {
             subjects.retain(|subject| subject.name == name);
         }
         if subjects.is_empty() || self.only.is_some() && subjects.len() > 1 {
-            return Err(USAGE.to_string());
+            return Err(usage());
         }
         simulator::marked::hold();
         println!("seed {}", self.seed);
@@ -93,14 +109,13 @@ impl Wanted {
         if self.only.is_none() {
             subject.complete(&tally)?;
         }
-        let refusals: Vec<String> = tally.refusals.iter().map(|(number, times)| format!("{number}:{times}")).collect();
+        let given: Vec<String> = tally.given().iter().map(|(number, times)| format!("{number}:{times}")).collect();
         println!(
-            "{} cases, {} answers the same, {} items; refusals {}; {} pairs at once; {:.1} s",
+            "{} cases, {} answers the same; refusals {}; {} sets of them at once; {:.1} s",
             to - from,
             tally.answers,
-            tally.items,
-            refusals.join(" "),
-            tally.pairs.len(),
+            given.join(" "),
+            tally.sets.keys().filter(|set| set.len() > 1).count(),
             began.elapsed().as_secs_f64()
         );
         Ok(())

@@ -4,10 +4,13 @@ use crate::compare::{row, session, trace, Subject};
 use crate::simulator::row::{Call, CALLS};
 use crate::simulator::{refusal, Refusal};
 use crate::plain;
-use crate::subject::{Counts, Picture, Rows, Sessions};
+use crate::subject::{Counts, Memory, Rows, Sessions};
 
 pub fn subjects() -> Vec<Subject> {
-    vec![trace::subject::<Plain>(), session::subject::<plain::session::Session>(), row::subject::<plain::row::Row>()]
+    let mut subjects = trace::subjects::<Plain>();
+    subjects.extend(session::subjects::<plain::session::Session>());
+    subjects.extend(row::subjects::<plain::row::Row>());
+    subjects
 }
 
 pub struct Plain;
@@ -65,7 +68,7 @@ impl Rows for plain::row::Row {
         plain::row::Row::victim(self).map_err(refusal)
     }
 
-    fn picture(&self) -> Picture {
-        self.picture()
+    fn memory(&self) -> Memory {
+        self.memory()
     }
 }

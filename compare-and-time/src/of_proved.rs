@@ -5,17 +5,15 @@ use crate::ffi;
 use crate::simulator::file::File;
 use crate::simulator::row::Call;
 use crate::simulator::Refusal;
-use crate::subject::{Counts, Files, Lists, Picture, Reports, Rows, Sessions};
+use crate::subject::{Counts, Files, Lists, Memory, Rows, Sessions};
 
 pub fn subjects() -> Vec<Subject> {
-    vec![
-        trace::subject::<Proved>(),
-        list::subject::<Proved>(),
-        session::subject::<Session>(),
-        row::subject::<Row>(),
-        file::subject::<Proved>(),
-        file::reports::<Proved>(),
-    ]
+    let mut subjects = trace::subjects::<Proved>();
+    subjects.extend(list::subjects::<Proved>());
+    subjects.extend(session::subjects::<Session>());
+    subjects.extend(row::subjects::<Row>());
+    subjects.extend(file::subjects::<Proved>());
+    subjects
 }
 
 pub struct Proved;
@@ -55,9 +53,7 @@ impl Files for Proved {
         told.result()?;
         Ok(File { capacities: capacities[..counts[0]].to_vec(), references: references[..counts[1]].to_vec() })
     }
-}
 
-impl Reports for Proved {
     fn report(bytes: &[u8]) -> Vec<u8> {
         let mut out = [0xa5; ffi::REPORT];
         let length = unsafe { ffi::musselrung_report(bytes.as_ptr(), bytes.len(), &mut out) };
@@ -131,20 +127,14 @@ impl Sessions for Session {
 }
 
 /// A frame row in memory of ours; only the library writes it.
-pub struct Row {
-    slots: [u8; 64],
-    places: [u8; 64],
-    states: [u8; 64],
-    front: usize,
-    held: usize,
-}
+pub struct Row(Memory);
 
 impl Rows for Row {
     fn fresh() -> Row {
-        let mut row = Row { slots: [9; 64], places: [9; 64], states: [9; 64], front: 9, held: 9 };
-        let Row { slots, places, states, front, held } = &mut row;
+        let mut memory = Memory { slots: [9; 64], places: [9; 64], states: [9; 64], front: 9, held: 9 };
+        let Memory { slots, places, states, front, held } = &mut memory;
         unsafe { ffi::musselrung_row_fresh(slots, places, states, front, held) };
-        row
+        Row(memory)
     }
 
     #[inline]
@@ -156,19 +146,19 @@ impl Rows for Row {
             Call::End => ffi::musselrung_row_end,
             Call::Drop => ffi::musselrung_row_drop,
         };
-        let Row { slots, places, states, front, held } = self;
+        let Memory { slots, places, states, front, held } = &mut self.0;
         let ffi::Replied { number, examined, place } = unsafe { function(slots, places, states, front, held, frame) };
         (ffi::Told { number, place }.result(), usize::from(examined))
     }
 
     #[inline]
     fn victim(&self) -> Result<u8, Refusal> {
-        let chosen = unsafe { ffi::musselrung_row_victim(&self.slots, &self.states, self.front, self.held) };
-        let ffi::Chosen { number, frame, place } = chosen;
+        let Memory { slots, states, front, held, .. } = &self.0;
+        let ffi::Chosen { number, frame, place } = unsafe { ffi::musselrung_row_victim(slots, states, *front, *held) };
         ffi::Told { number, place }.result().map(|()| frame)
     }
 
-    fn picture(&self) -> Picture {
-        (self.slots, self.front, self.states)
+    fn memory(&self) -> Memory {
+        self.0.clone()
     }
 }

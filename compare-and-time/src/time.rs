@@ -109,7 +109,7 @@ fn references<S: Sessions>(policy: u8, trace: &[u16]) {
 /// Calls that a working row gets, nearly all of them accepted: mostly touches, a put and a drop now and then, transfers.
 fn calls() -> Vec<(Call, u8)> {
     let mut rng = Rng::of_case(SEED, "calls", 0);
-    let mut row = Row::default();
+    let mut row = Row::fresh();
     let mut calls = Vec::new();
     while calls.len() < REFERENCES {
         let call = CALLS[match rng.below(100) {

@@ -1,96 +1,103 @@
-//! Trace files and their reports: valid ones, ones broken on purpose in several ways at once, cut ones and plain noise.
+//! Trace files, what is read from them and what is reported of them: good ones, ones with every set of faults, cut at
+//! every place, with every byte changed, and drawn ones.
 
-use super::{same, Subject, Tally};
-use crate::gen;
-use crate::simulator::file::{faults, read, report};
+use super::file_bytes::{drawn, longest, refusals, small_files, with_faults, SMALL_FILES};
+use super::{all_sets, numbers, same, Outcome, Subject, Tally};
 use crate::rng::Rng;
-use crate::subject::{Files, Reports};
+use crate::simulator::file::{faults, read, report};
+use crate::subject::Files;
 
-pub fn subject<L: Files>() -> Subject {
-    Subject { name: "file", short: 20_000, full: 400_000, case: file_case::<L>, refusals: REFUSALS, pairs: PAIRS }
+pub fn subjects<L: Files>() -> Vec<Subject> {
+    vec![
+        Subject { name: "files", short: 20_000, full: 400_000, case: read_case::<L>, sets: sets() },
+        Subject { name: "reports", short: 2_000, full: 40_000, case: report_case::<L>, sets: sets() },
+        Subject::every("file-faults", SETS * EDGES, fault_case::<L>, sets()),
+        Subject::every("file-damage", SMALL_FILES.iter().sum(), damage_case::<L>, DAMAGE.map(<[u8]>::to_vec).to_vec()),
+        Subject::every("longest-file", 1, longest_case::<L>, LONGEST.map(<[u8]>::to_vec).to_vec()),
+    ]
 }
 
-pub fn reports<L: Reports>() -> Subject {
-    Subject { name: "report", short: 2_000, full: 40_000, case: report_case::<L>, refusals: REFUSALS, pairs: PAIRS }
+/// What a change of one byte, or a cut, can lead to: a count that is too large leaves values missing too.
+const DAMAGE: [&[u8]; 6] = [&[], &[9], &[8], &[2, 8], &[10], &[3]];
+const LONGEST: [&[u8]; 3] = [&[], &[8], &[10]];
+
+/// Order O5. A file that ends too soon (8) has no bytes left (10), and its references are not all there to be bad (3).
+fn sets() -> Vec<Vec<u8>> {
+    let mut sets = all_sets(&[9, 2, 10, 3]);
+    sets.extend(all_sets(&[9, 2, 8]).into_iter().filter(|set| set.contains(&8)));
+    sets
 }
 
-const REFUSALS: &[u8] = &[8, 9, 2, 10, 3];
-const PAIRS: &[(u8, u8)] = &[(9, 8), (9, 2), (9, 10), (9, 3), (2, 8), (2, 10), (2, 3), (10, 3)];
-
-fn file_case<L: Files>(rng: &mut Rng, tally: &mut Tally) -> Result<(), String> {
-    let bytes = any_file(rng);
-    note(&bytes, tally);
-    same(&shown("file", &bytes), L::read(&bytes), read(&bytes))
+fn read_case<L: Files>(_: u64, rng: &mut Rng, tally: &mut Tally) -> Outcome {
+    compare_reading::<L>(&drawn(rng), tally)
 }
 
-fn report_case<L: Reports>(rng: &mut Rng, tally: &mut Tally) -> Result<(), String> {
-    let bytes = any_file(rng);
-    note(&bytes, tally);
-    let got = String::from_utf8_lossy(&L::report(&bytes)).into_owned();
-    same(&shown("report of a file", &bytes), got, report(&bytes))
+fn report_case<L: Files>(_: u64, rng: &mut Rng, tally: &mut Tally) -> Outcome {
+    compare_report::<L>(&drawn(rng), tally)
+}
+
+const SETS: usize = 256;
+/// How many files there are for a set of faults.
+const EDGES: usize = 6;
+
+fn fault_case<L: Files>(case: u64, rng: &mut Rng, tally: &mut Tally) -> Outcome {
+    let (bits, edge) = (case as usize % SETS, case as usize / SETS);
+    let file = with_faults(rng, bits, edge);
+    same("the faults of the case", numbers(&faults(&file)), refusals(bits))?;
+    compare_both::<L>(&file, tally)
+}
+
+/// One place of one of the small files: cut there, some bytes put in at the end, and that byte changed to every other.
+fn damage_case<L: Files>(case: u64, rng: &mut Rng, tally: &mut Tally) -> Outcome {
+    let (mut file, mut place) = (0, case as usize);
+    while place >= SMALL_FILES[file] {
+        place -= SMALL_FILES[file];
+        file += 1;
+    }
+    let whole = &small_files(rng)[file];
+    same("the length of the file", whole.len(), SMALL_FILES[file])?;
+    compare_both::<L>(&whole[..place], tally)?;
+    compare_both::<L>(&[&whole[..], &whole[..place]].concat(), tally)?;
+    for change in 0..=255 {
+        let mut changed = whole.clone();
+        changed[place] ^= change;
+        compare_both::<L>(&changed, tally)?;
+    }
+    Ok(())
+}
+
+/// The longest file, a byte less, a byte more, and many more.
+fn longest_case<L: Files>(_: u64, rng: &mut Rng, tally: &mut Tally) -> Outcome {
+    let mut file = longest(rng);
+    same("the length of the longest file", file.len(), 8324)?;
+    compare_both::<L>(&file, tally)?;
+    compare_both::<L>(&file[..8323], tally)?;
+    file.resize(20_000, 0);
+    compare_both::<L>(&file[..8325], tally)?;
+    compare_both::<L>(&file, tally)
+}
+
+fn compare_both<L: Files>(bytes: &[u8], tally: &mut Tally) -> Outcome {
+    compare_reading::<L>(bytes, tally)?;
+    compare_report::<L>(bytes, tally)
+}
+
+/// The bytes as a file, and as the part of one that starts at its reference section (F3): behind no capacities the
+/// reader hands on exactly these bytes.
+fn compare_reading<L: Files>(bytes: &[u8], tally: &mut Tally) -> Outcome {
+    for file in [bytes, &[&[0, 0], bytes].concat()] {
+        tally.note(&faults(file));
+        same(&shown("file", file), L::read(file), read(file))?;
+    }
+    Ok(())
+}
+
+fn compare_report<L: Files>(bytes: &[u8], tally: &mut Tally) -> Outcome {
+    tally.note(&faults(bytes));
+    let got = String::from_utf8_lossy(&L::report(bytes)).into_owned();
+    same(&shown("report of a file", bytes), got, report(bytes))
 }
 
 fn shown(what: &str, bytes: &[u8]) -> String {
     format!("{what} of {} bytes that begins {:?}", bytes.len(), &bytes[..bytes.len().min(24)])
-}
-
-fn note(bytes: &[u8], tally: &mut Tally) {
-    let found = faults(bytes);
-    if found.is_empty() {
-        tally.items += bytes.len() as u64;
-    }
-    tally.note(&found);
-}
-
-fn any_file(rng: &mut Rng) -> Vec<u8> {
-    match rng.below(10) {
-        0 => (0..rng.below(40)).map(|_| rng.below(256) as u8).collect(),
-        1 => (0..rng.below(40)).map(|_| rng.below(3) as u8).collect(),
-        2 | 3 => {
-            let whole = file(rng, 0);
-            let cut = rng.below(whole.len());
-            whole[..cut].to_vec()
-        }
-        4 | 5 => file(rng, 0),
-        _ => {
-            let bits = rng.below(32);
-            file(rng, bits)
-        }
-    }
-}
-
-/// A file that is broken in the ways that the bits name.
-fn file(rng: &mut Rng, bits: usize) -> Vec<u8> {
-    let with = |bit: usize| bits >> bit & 1 == 1;
-    let mut capacities: Vec<u16> = (1..=64).filter(|_| rng.percent(20)).collect();
-    if with(0) {
-        spoil_capacities(rng, &mut capacities);
-    }
-    let length = if with(1) { rng.pick(&[4097, 4100]) } else { gen::length(rng) };
-    let mut references = gen::any_trace(rng, length);
-    if with(2) && length > 0 {
-        gen::spoil(rng, &mut references);
-    }
-    let mut bytes = Vec::new();
-    for section in [&capacities, &references] {
-        bytes.extend((section.len() as u16).to_le_bytes());
-        section.iter().for_each(|value| bytes.extend(value.to_le_bytes()));
-    }
-    if with(3) {
-        (0..rng.within(1, 5)).for_each(|i| bytes.push(i as u8));
-    }
-    if with(4) {
-        bytes.truncate(bytes.len() - rng.below(bytes.len().min(20)));
-    }
-    bytes
-}
-
-fn spoil_capacities(rng: &mut Rng, capacities: &mut Vec<u16>) {
-    match rng.below(5) {
-        0 => capacities.insert(0, 0),
-        1 => capacities.push(rng.pick(&[65, 66, 256, 65_535])),
-        2 => capacities.extend([7, 7]),
-        3 => capacities.extend([9, 3]),
-        _ => *capacities = (1..=rng.pick(&[65, 66, 100])).collect(),
-    }
 }

@@ -1,18 +1,79 @@
-//! Frame rows: long random sequences of calls, with the answer, the slots examined, the victim and the whole row.
+//! Frame rows: the answer to each call, the slots examined, the whole memory after it, and the victim.
 
-use super::{same, Subject, Tally};
-use crate::simulator::row::{Call, Row, CALLS};
+use super::{same, Outcome, Subject, Tally};
 use crate::rng::Rng;
-use crate::subject::Rows;
+use crate::simulator::row::{Call, Row, State, CALLS};
+use crate::simulator::slots::Slots;
+use crate::simulator::{FRAMES, SLOTS};
+use crate::subject::{Memory, Rows};
 
-pub fn subject<L: Rows>() -> Subject {
-    Subject {
-        name: "row",
-        short: 5_000,
-        full: 100_000,
-        case: case::<L>,
-        refusals: &[20, 21, 22, 23, 24, 25, 26, 27],
-        pairs: &[(20, 25)],
+pub fn subjects<L: Rows>() -> Vec<Subject> {
+    // order O6: a number that is no frame is not held either, so 20 applies beside 22, or beside 25 in a full row
+    let calls: [&[u8]; 8] = [&[], &[20], &[20, 22], &[20, 25], &[21], &[22], &[23], &[24]];
+    let rest: [&[u8]; 3] = [&[25], &[26], &[27]];
+    let sets: Vec<Vec<u8>> = calls.iter().chain(&rest).map(|set| set.to_vec()).collect();
+    vec![
+        Subject { name: "rows", short: 5_000, full: 100_000, case: drawn_case::<L>, sets: sets.clone() },
+        Subject::every("row-calls", ROWS * CALLS.len() * NUMBERS, call_case::<L>, sets),
+    ]
+}
+
+/// A row of the library beside one of the simulator, and the slots that its memory has to show.
+struct Pair<L> {
+    got: L,
+    want: Row,
+    slots: Slots,
+}
+
+impl<L: Rows> Pair<L> {
+    fn fresh() -> Pair<L> {
+        Pair { got: L::fresh(), want: Row::fresh(), slots: Slots::fresh() }
+    }
+
+    fn call(&mut self, call: Call, frame: u8, tally: &mut Tally) -> Outcome {
+        let text = format!("{call:?} of frame {frame}");
+        tally.note(&self.want.faults(call, frame));
+        let (answer, examined) = self.got.call(call, frame);
+        let expected = self.want.call(call, frame);
+        same(&text, answer, expected.map(|_| ()))?;
+        same(&format!("slots examined by {text}"), examined, expected.unwrap_or(0))?;
+        // a refusal leaves the slots, so the memory has to be what it was
+        if expected.is_ok() {
+            self.slots.follow(call, frame);
+        }
+        self.memory(&text)
+    }
+
+    fn memory(&self, text: &str) -> Outcome {
+        same(&format!("the memory after {text}"), self.got.memory(), self.expected())?;
+        same("the front with slots, and without", self.slots.front, self.want.front)
+    }
+
+    fn expected(&self) -> Memory {
+        let mut memory = Memory {
+            slots: [FRAMES; SLOTS],
+            places: [SLOTS as u8; FRAMES as usize],
+            states: [0; FRAMES as usize],
+            front: self.want.front,
+            held: 0,
+        };
+        for (slot, frame) in self.slots.slots.iter().enumerate().filter_map(|(i, frame)| Some((i, (*frame)?))) {
+            memory.slots[slot] = frame;
+            memory.places[usize::from(frame)] = slot as u8;
+        }
+        for frame in 0..FRAMES {
+            let state = self.want.state(frame);
+            memory.states[usize::from(frame)] = state as u8;
+            memory.held += usize::from(state != State::Absent);
+        }
+        memory
+    }
+
+    /// Asking changes nothing: the next call's memory, or the one at the end, would show it.
+    fn victim(&self, tally: &mut Tally) -> Outcome {
+        let answer = self.want.victim();
+        tally.note(&answer.err().into_iter().collect::<Vec<_>>());
+        same("the victim", self.got.victim(), answer)
     }
 }
 
@@ -21,7 +82,7 @@ pub fn subject<L: Rows>() -> Subject {
 const MIXES: [[usize; 5]; 5] =
     [[20, 20, 20, 20, 20], [10, 80, 4, 4, 2], [60, 20, 10, 8, 2], [15, 10, 50, 20, 5], [40, 10, 5, 5, 40]];
 
-fn call(rng: &mut Rng, mix: &[usize; 5]) -> Call {
+fn drawn_call(rng: &mut Rng, mix: &[usize; 5]) -> Call {
     let mut at = rng.below(100);
     for (i, &share) in mix.iter().enumerate() {
         if at < share {
@@ -32,41 +93,57 @@ fn call(rng: &mut Rng, mix: &[usize; 5]) -> Call {
     unreachable!("the shares add up to 100")
 }
 
-fn case<L: Rows>(rng: &mut Rng, tally: &mut Tally) -> Result<(), String> {
-    let (mut got, mut want, mut examined) = (L::fresh(), Row::default(), 0);
+/// Long random sequences of calls.
+fn drawn_case<L: Rows>(_: u64, rng: &mut Rng, tally: &mut Tally) -> Outcome {
+    let mut pair = Pair::<L>::fresh();
     let frames = rng.pick(&[1, 2, 5, 20, 32, 33, 40, 64]);
     let length = if rng.percent(5) { rng.within(500, 3000) } else { rng.within(0, 400) };
     let mut mix = rng.pick(&MIXES);
-    victim(&got, &want, tally)?;
+    pair.victim(tally)?;
     for i in 0..length {
         if rng.percent(1) {
             mix = rng.pick(&MIXES);
         }
         let bad = rng.pick(&[64, 65, 128, 200, 255]);
-        let (event, frame) = (call(rng, &mix), if rng.percent(2) { bad } else { rng.below(frames) as u8 });
-        tally.note(&want.faults(event, frame));
-        let (answer, slots) = got.call(event, frame);
-        let expected = want.call(event, frame);
-        let text = format!("call {i}: {event:?} of frame {frame}");
-        same(&text, answer, expected.map(|_| ()))?;
-        same(&format!("slots examined by {text}"), slots, expected.unwrap_or(0))?;
-        examined += slots;
+        let frame = if rng.percent(2) { bad } else { rng.below(frames) as u8 };
+        pair.call(drawn_call(rng, &mix), frame, tally).map_err(|fault| format!("call {i}: {fault}"))?;
         if rng.percent(25) {
-            victim(&got, &want, tally)?;
-        }
-        if rng.percent(10) {
-            same(&format!("the row after {text}"), got.picture(), want.picture())?;
+            pair.victim(tally)?;
         }
     }
-    tally.items += length as u64;
-    same("the row at the end", got.picture(), want.picture())?;
-    victim(&got, &want, tally)?;
-    same("the sum of the slots examined", examined, want.examined)?;
-    same("that sum is at most twice the accepted puts and touches", examined <= 2 * want.moves, true)
+    pair.victim(tally)?;
+    pair.memory("the last call")?;
+    let Row { examined, moves, .. } = pair.want;
+    same("the sum of the slots examined is at most twice the puts and touches", examined <= 2 * moves, true)
 }
 
-fn victim<L: Rows>(got: &L, want: &Row, tally: &mut Tally) -> Result<(), String> {
-    let answer = want.victim();
-    tally.note(&answer.err().into_iter().collect::<Vec<_>>());
-    same("the victim", got.victim(), answer)
+/// Rows with none, one, 31 or 32 frames, of which none, every second or all are busy, the front at 0 or above it.
+const ROWS: usize = 4 * 3 * 2;
+const NUMBERS: usize = 256;
+
+fn row_of<L: Rows>(number: usize, tally: &mut Tally) -> Result<Pair<L>, String> {
+    let frames = [0, 1, 31, 32][number % 4];
+    let busy: fn(u8) -> bool = [|_| false, |frame| frame % 2 == 1, |_| true][number / 4 % 3];
+    let front_at_0 = number / 12 == 1 && frames > 0;
+    let mut pair = Pair::<L>::fresh();
+    for frame in 0..frames {
+        pair.call(Call::Put, frame, tally)?;
+        if busy(frame) {
+            pair.call(Call::Start, frame, tally)?;
+        }
+    }
+    while front_at_0 && pair.want.front > 0 {
+        pair.call(Call::Touch, (pair.want.front % usize::from(frames)) as u8, tally)?;
+    }
+    Ok(pair)
+}
+
+/// Every call on every number, in each of those rows.
+fn call_case<L: Rows>(case: u64, _: &mut Rng, tally: &mut Tally) -> Outcome {
+    let (frame, case) = ((case as usize % NUMBERS) as u8, case as usize / NUMBERS);
+    let (call, row) = (CALLS[case % CALLS.len()], case / CALLS.len());
+    let mut pair = row_of::<L>(row, tally)?;
+    pair.call(call, frame, tally)?;
+    pair.victim(tally)?;
+    pair.memory("asking for a victim")
 }

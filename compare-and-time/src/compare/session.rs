@@ -1,59 +1,136 @@
-//! Sessions: random histories, bad references among them, read at random moments.
+//! Sessions: the answer to each reference, everything that can be read after it, and the memory that a refusal leaves.
 
-use super::{same, same_list, Subject, Tally};
+use super::{all_sets, same, same_list, Outcome, Subject, Tally};
 use crate::gen;
+use crate::rng::Rng;
 use crate::simulator::session::{start, start_faults, Session};
 use crate::simulator::REFERENCES;
-use crate::rng::Rng;
 use crate::subject::Sessions;
 
-pub fn subject<L: Sessions>() -> Subject {
-    Subject {
-        name: "session",
-        short: 5_000,
-        full: 100_000,
-        case: case::<L>,
-        refusals: &[5, 1, 6, 3, 7],
-        pairs: &[(5, 1), (6, 3)],
+pub fn subjects<L: Sessions>() -> Vec<Subject> {
+    // orders O3 and O4, and a capacity out of range
+    let starts = all_sets(&[5, 1]);
+    let references = [all_sets(&[6, 3]), vec![vec![7]]].concat();
+    let all = [starts.clone(), references.clone()].concat();
+    vec![
+        Subject { name: "sessions", short: 5_000, full: 100_000, case: drawn_case::<L>, sets: all },
+        Subject::every("session-starts", POLICIES * LIMITS, start_case::<L>, starts),
+        Subject::every("full-sessions", FULL.len(), full_case::<L>, references),
+    ]
+}
+
+/// A session of the library beside one of the simulator.
+struct Pair<L> {
+    policy: u8,
+    k: usize,
+    got: L,
+    want: Session,
+}
+
+impl<L: Sessions> Pair<L> {
+    /// None if the start is refused.
+    fn start(policy: u8, k: usize, tally: &mut Tally) -> Result<Option<Pair<L>>, String> {
+        tally.note(&start_faults(policy, k));
+        match (L::start(policy, k), start(policy, k)) {
+            (Ok(got), Ok(want)) => Ok(Some(Pair { policy, k, got, want })),
+            (got, want) => {
+                let text = format!("start of a session, policy {policy}, K {k}");
+                same(&text, got.map(|_| ()), want.map(|_| ())).map(|()| None)
+            }
+        }
+    }
+
+    fn refer(&mut self, page: u16, tally: &mut Tally) -> Outcome {
+        let faults = self.want.reference_faults(page);
+        let before = if faults.is_empty() { None } else { Some(self.got.clone()) };
+        tally.note(&faults);
+        let text = format!("policy {}, K {}, reference to {page}", self.policy, self.k);
+        same(&text, self.got.reference(page), self.want.reference(page))?;
+        match before {
+            Some(before) if self.got != before => Err(format!("{text}: a refusal changed the session")),
+            _ => Ok(()),
+        }
+    }
+
+    /// The list, the references accepted, and the hits and misses at these capacities.
+    fn read(&self, capacities: &[usize], tally: &mut Tally) -> Outcome {
+        same_list(self.got.list(), self.k, &self.want.caches)?;
+        same("references accepted", self.got.accepted(), self.want.accepted())?;
+        for &capacity in capacities {
+            let answer = self.want.hits_and_misses(capacity);
+            tally.note(&answer.err().into_iter().collect::<Vec<_>>());
+            same(&format!("hits at {capacity}"), self.got.hits(capacity), answer.map(|both| both.0))?;
+            same(&format!("misses at {capacity}"), self.got.misses(capacity), answer.map(|both| both.1))?;
+        }
+        Ok(())
+    }
+
+    /// The same at every capacity, and at some that are none.
+    fn read_all(&self, tally: &mut Tally) -> Outcome {
+        let capacities: Vec<usize> = (0..=self.k + 1).chain([65, 256, 1 << 32, usize::MAX]).collect();
+        self.read(&capacities, tally)
+    }
+
+    fn read_some(&self, rng: &mut Rng, tally: &mut Tally) -> Outcome {
+        let (k, wide) = (self.k, rng.next() as usize | 128);
+        let capacities = [1, k, rng.within(1, k), 0, k + 1, rng.within(1, 64), 65, wide, usize::MAX];
+        self.read(&capacities, tally)
     }
 }
 
-fn case<L: Sessions>(rng: &mut Rng, tally: &mut Tally) -> Result<(), String> {
+/// Random histories, bad references among them, read at random moments.
+fn drawn_case<L: Sessions>(_: u64, rng: &mut Rng, tally: &mut Tally) -> Outcome {
     let bits = if rng.percent(80) { 0 } else { rng.below(4) };
     let policy = if bits & 1 == 1 { rng.pick(&[2, 2, 3, 255]) } else { rng.below(2) as u8 };
     let k = if bits & 2 == 2 { gen::bad_limit(rng) } else { gen::limit(rng) };
-    tally.note(&start_faults(policy, k));
-    let (mut got, mut want) = match (L::start(policy, k), start(policy, k)) {
-        (Ok(got), Ok(want)) => (got, want),
-        (got, want) => return same("session start", got.map(|_| ()), want.map(|_| ())),
-    };
+    let Some(mut pair) = Pair::<L>::start(policy, k, tally)? else { return Ok(()) };
     // some sessions go on after they are full
     let length = if rng.percent(1) { REFERENCES + 30 } else { gen::length(rng) };
-    let pages = gen::any_trace(rng, length);
     let often = rng.pick(&[0, 1, 20]);
-    read(&got, &want, k, rng, tally)?;
-    for (i, &valid) in pages.iter().enumerate() {
-        let page = if rng.percent(often) || i > REFERENCES && i % 2 == 0 { gen::bad_page(rng) } else { valid };
-        tally.note(&want.reference_faults(page));
-        let call = format!("policy {policy}, K {k}, call {i}: reference to {page}");
-        same(&call, got.reference(page), want.reference(page))?;
-        tally.items += 1;
+    pair.read_some(rng, tally)?;
+    for (i, valid) in gen::any_trace(rng, length).into_iter().enumerate() {
+        let bad = rng.percent(often) || i > REFERENCES && i % 2 == 0;
+        pair.refer(if bad { gen::bad_page(rng) } else { valid }, tally)?;
         if rng.percent(3) {
-            read(&got, &want, k, rng, tally)?;
+            pair.read_some(rng, tally)?;
         }
     }
-    read(&got, &want, k, rng, tally)
+    pair.read_some(rng, tally)
 }
 
-fn read<L: Sessions>(got: &L, want: &Session, k: usize, rng: &mut Rng, tally: &mut Tally) -> Result<(), String> {
-    same_list(got.list(), &want.list())?;
-    same("references accepted", got.accepted(), want.accepted())?;
-    let wide = rng.next() as usize | 128;
-    for capacity in [1, k, rng.within(1, k), 0, k + 1, rng.within(1, 64), 65, wide, usize::MAX] {
-        let answer = want.hits_and_misses(capacity);
-        tally.note(&answer.err().into_iter().collect::<Vec<_>>());
-        same(&format!("hits at {capacity}"), got.hits(capacity), answer.map(|both| both.0))?;
-        same(&format!("misses at {capacity}"), got.misses(capacity), answer.map(|both| both.1))?;
+const POLICIES: usize = 256;
+/// Every limit up to past the largest, then some that are wide.
+const LIMITS: usize = 67 + WIDE.len();
+const WIDE: [usize; 9] = [127, 128, 256, 257, 65_536, 65_537, 1 << 32, (1 << 32) + 1, usize::MAX];
+
+/// Every policy number with every limit; a session that starts is read whole after each of some references.
+fn start_case<L: Sessions>(case: u64, rng: &mut Rng, tally: &mut Tally) -> Outcome {
+    let (policy, at) = ((case as usize % POLICIES) as u8, case as usize / POLICIES);
+    let k = if at < 67 { at } else { WIDE[at - 67] };
+    let Some(mut pair) = Pair::<L>::start(policy, k, tally)? else { return Ok(()) };
+    pair.read_all(tally)?;
+    for page in gen::any_trace(rng, 1 + k * 7 % 60) {
+        pair.refer(if rng.percent(10) { gen::bad_page(rng) } else { page }, tally)?;
+        pair.read_all(tally)?;
     }
     Ok(())
+}
+
+const FULL: [(u8, usize); 10] =
+    [(0, 1), (0, 2), (0, 3), (0, 63), (0, 64), (1, 1), (1, 2), (1, 3), (1, 63), (1, 64)];
+
+/// A session that is filled, and then asked for pages and for numbers that are none.
+fn full_case<L: Sessions>(case: u64, rng: &mut Rng, tally: &mut Tally) -> Outcome {
+    let (policy, k) = FULL[case as usize];
+    let mut pair = Pair::<L>::start(policy, k, tally)?.ok_or("no session")?;
+    pair.refer(1024, tally)?;
+    let pages = gen::any_trace(rng, REFERENCES);
+    for &page in &pages {
+        pair.refer(page, tally)?;
+    }
+    for page in [pages[0], pages[REFERENCES - 1], 0, 1023, 1024, 65_535] {
+        pair.read_all(tally)?;
+        pair.refer(page, tally)?;
+    }
+    pair.read_all(tally)
 }

@@ -1,59 +1,66 @@
 //! Whole traces: the answer and the whole hit table after the call, for every policy.
 
-use super::{same, Subject, Tally};
-use crate::gen;
-use crate::simulator::trace::{count, count_faults};
+use super::faults::{at_edge, drawn, Call, Faults, EDGES};
+use super::{all_sets, chosen, numbers, same, Outcome, Subject, Tally};
 use crate::rng::Rng;
+use crate::simulator::trace::{count, count_faults};
 use crate::subject::Counts;
 
-pub fn subject<L: Counts>() -> Subject {
-    Subject {
-        name: "trace",
-        short: 20_000,
-        full: 200_000,
-        case: case::<L>,
-        refusals: &[5, 1, 2, 4, 3],
-        pairs: &[(5, 1), (5, 2), (5, 4), (5, 3), (1, 2), (1, 4), (1, 3), (2, 4), (2, 3), (4, 3)],
-    }
+/// Order O1.
+const ORDER: [u8; 5] = [5, 1, 2, 4, 3];
+const SETS: usize = 32;
+
+pub fn subjects<L: Counts>() -> Vec<Subject> {
+    let sets = all_sets(&ORDER);
+    vec![
+        Subject { name: "traces", short: 20_000, full: 200_000, case: drawn_case::<L>, sets: sets.clone() },
+        Subject::every("trace-faults", SETS * EDGES, fault_case::<L>, sets),
+    ]
 }
 
-/// Which of the five refusals the case shall meet; most cases meet none.
-struct Faults {
-    policy: bool,
-    limit: bool,
-    length: bool,
-    table: bool,
-    page: bool,
-}
-
-fn case<L: Counts>(rng: &mut Rng, tally: &mut Tally) -> Result<(), String> {
-    let bits = if rng.percent(80) { 0 } else { rng.below(32) };
+/// The faults that the bits name, in the order of the refusals; bit 3 is a table that is too short.
+fn faults(bits: usize) -> (Faults, bool) {
     let with = |bit: usize| bits >> bit & 1 == 1;
-    let faults = Faults { policy: with(0), limit: with(1), length: with(2), table: with(3), page: with(4) };
-    let length = if faults.length { rng.pick(&[4097, 4098, 5000, 9000]) } else { gen::length(rng) };
-    let mut trace = gen::any_trace(rng, length);
-    if faults.page && length > 0 {
-        gen::spoil(rng, &mut trace);
-    }
-    let k = if faults.limit { gen::bad_limit(rng) } else { gen::limit(rng) };
-    let room = if faults.table { rng.below(k.clamp(1, 300)) } else { k.min(300) + rng.below(4) };
-    let before: Vec<u32> = (0..room).map(|_| rng.next() as u32).collect();
-    if faults.policy {
-        let policy = rng.pick(&[3, 4, 128, 255]);
-        return compare::<L>(&trace, policy, k, &before, tally);
-    }
-    (0..3).try_for_each(|policy| compare::<L>(&trace, policy, k, &before, tally))
+    (Faults { policy: with(0), limit: with(1), length: with(2), page: with(4) }, with(3))
 }
 
-fn compare<L: Counts>(trace: &[u16], policy: u8, k: usize, before: &[u32], tally: &mut Tally) -> Result<(), String> {
-    let call = format!("count of {} references, policy {policy}, K {k}, a table of {}", trace.len(), before.len());
-    let faults = count_faults(trace, policy, k, before);
-    let (mut got, mut want) = (before.to_vec(), before.to_vec());
-    same(&call, L::count(trace, policy, k, &mut got), count(trace, policy, k, &mut want))?;
-    same(&format!("hit table after {call}"), got, want)?;
-    tally.note(&faults);
-    if faults.is_empty() {
-        tally.items += trace.len() as u64;
+/// Most cases meet no refusal.
+fn drawn_case<L: Counts>(_: u64, rng: &mut Rng, tally: &mut Tally) -> Outcome {
+    let (faults, short) = faults(if rng.percent(80) { 0 } else { rng.below(SETS) });
+    let call = drawn(rng, faults);
+    let room = if short { rng.below(call.k.clamp(1, 300)) } else { call.k.min(300) + rng.below(4) };
+    compare::<L>(&call, &table(rng, room), tally).map(|_| ())
+}
+
+/// Every set of faults, at every edge.
+fn fault_case<L: Counts>(case: u64, rng: &mut Rng, tally: &mut Tally) -> Outcome {
+    let (bits, edge) = (case as usize % SETS, case as usize / SETS);
+    let (faults, short) = faults(bits);
+    // a limit of 0 has no shorter table, and one past all memory no table that is long enough
+    let limits: &[usize] =
+        if short { &[65, 66, 128, 256, 65_536, 1 << 32, (1 << 32) + 1, usize::MAX] } else { &[0, 65, 66, 128, 256] };
+    let call = at_edge(rng, faults, edge, limits);
+    let room = if short { (call.k - 1).min(300) } else { call.k + edge % 3 };
+    let met = compare::<L>(&call, &table(rng, room), tally)?;
+    same("the faults of the case", met, chosen(&ORDER, bits))
+}
+
+fn table(rng: &mut Rng, room: usize) -> Vec<u32> {
+    (0..room).map(|_| rng.next() as u32).collect()
+}
+
+/// Compares the call under each of its policies, and answers which refusals applied.
+fn compare<L: Counts>(call: &Call, before: &[u32], tally: &mut Tally) -> Result<Vec<u8>, String> {
+    let Call { trace, policies, k } = call;
+    let mut met = Vec::new();
+    for &policy in policies {
+        let text = format!("count of {} references, policy {policy}, K {k}, a table of {}", trace.len(), before.len());
+        let faults = count_faults(trace, policy, *k, before);
+        let (mut got, mut want) = (before.to_vec(), before.to_vec());
+        same(&text, L::count(trace, policy, *k, &mut got), count(trace, policy, *k, &mut want))?;
+        same(&format!("hit table after {text}"), got, want)?;
+        tally.note(&faults);
+        met = numbers(&faults);
     }
-    Ok(())
+    Ok(met)
 }

@@ -1,5 +1,7 @@
 //! A frame row that changes in place.
 
+use crate::subject::Memory;
+
 const FRAMES: u8 = 64;
 const SLOTS: usize = 64;
 const HELD: usize = 32;
@@ -110,7 +112,10 @@ impl Row {
         }
     }
 
-    pub fn picture(&self) -> ([u8; SLOTS], usize, [u8; 64]) {
-        (self.slots, self.front, self.states)
+    /// The slot of an absent frame is left as it was, and shown as none.
+    pub fn memory(&self) -> Memory {
+        let Row { slots, mut places, states, front, held } = self.clone();
+        (0..places.len()).filter(|&i| states[i] == ABSENT).for_each(|i| places[i] = EMPTY);
+        Memory { slots, places, states, front, held }
     }
 }

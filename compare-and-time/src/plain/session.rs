@@ -2,7 +2,7 @@
 
 use super::walk::{lowest, page_of, Entries, Pages, LIMIT, PAGES, RANK};
 
-#[derive(Clone)]
+#[derive(Clone, PartialEq, Debug)]
 pub struct Session {
     limit: usize,
     list: List,
@@ -10,7 +10,7 @@ pub struct Session {
     accepted: usize,
 }
 
-#[derive(Clone)]
+#[derive(Clone, PartialEq, Debug)]
 enum List {
     Lru(Pages),
     Lfu(Entries, [u32; PAGES]),

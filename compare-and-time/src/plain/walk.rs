@@ -4,7 +4,7 @@ pub const LIMIT: usize = 64;
 pub const PAGES: usize = 1024;
 
 /// The list under LRU: pages alone.
-#[derive(Clone)]
+#[derive(Clone, PartialEq, Debug)]
 pub struct Pages {
     pub places: [u16; LIMIT],
     pub length: usize,
@@ -36,7 +36,7 @@ impl Pages {
 }
 
 /// The list under any other policy: entries, of which the larger stays. Only the referenced page's entry ever changes.
-#[derive(Clone)]
+#[derive(Clone, PartialEq, Debug)]
 pub struct Entries {
     pub places: [u32; LIMIT],
     pub length: usize,

@@ -110,16 +110,17 @@ impl Caches {
         smallest
     }
 
-    /// The list as demand D3 makes it out from the caches: place C has the page that the cache of C frames holds and
-    /// the cache of C - 1 frames does not.
-    pub fn list(&self) -> Vec<u16> {
-        let mut places: Vec<u16> = Vec::new();
-        for cache in &self.caches {
-            let more: Vec<u16> = cache.held.iter().copied().filter(|page| !places.contains(page)).collect();
-            assert!(cache.held.len() == places.len() + more.len(), "a larger cache lacks a page of a smaller one");
-            assert!(more.len() <= 1, "a cache has two pages more than the next smaller one");
-            places.extend(more);
-        }
-        places
+    /// The pages that the cache of so many frames holds.
+    pub fn held(&self, frames: usize) -> &[u16] {
+        &self.caches[frames - 1].held
+    }
+
+    /// Demand D3 of a list, without a list of our own: the first C, if any, whose first C places do not have exactly the
+    /// pages of the cache of C frames (M7: of a shorter list they are all of it). As C rises no place is left open.
+    pub fn first_difference(&self, list: &[u16]) -> Option<usize> {
+        (1..=self.caches.len()).find(|&c| {
+            let (places, held) = (&list[..c.min(list.len())], self.held(c));
+            places.len() != held.len() || held.iter().any(|page| !places.contains(page))
+        })
     }
 }

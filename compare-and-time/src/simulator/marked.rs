@@ -28,11 +28,11 @@ fn traces() {
         assert_eq!(hits(&[7, 7], policy, 1), [1], "P3");
     }
     assert_eq!(hits(&T, 0, 5), [0, 2, 5, 6, 7], "P4");
-    assert_eq!(list(&T, 0, 5, 12).unwrap(), [2, 5, 3, 4, 1], "P4");
+    assert_eq!(list(&T, 0, 5, 12).unwrap().first_difference(&[2, 5, 3, 4, 1]), None, "P4");
     assert_eq!(hits(&T, 1, 5), [0, 4, 5, 6, 7], "P5");
-    assert_eq!(list(&T, 1, 5, 12).unwrap(), [2, 5, 3, 1, 4], "P5");
+    assert_eq!(list(&T, 1, 5, 12).unwrap().first_difference(&[2, 5, 3, 1, 4]), None, "P5");
     assert_eq!(hits(&T, 2, 5), [0, 5, 6, 7, 7], "P6");
-    assert_eq!(list(&T, 2, 5, 12).unwrap(), [2, 5, 3, 4, 1], "P6");
+    assert_eq!(list(&T, 2, 5, 12).unwrap().first_difference(&[2, 5, 3, 4, 1]), None, "P6");
 }
 
 fn refusals() {
@@ -47,7 +47,7 @@ fn refusals() {
 }
 
 fn row() {
-    let mut row = Row::default();
+    let mut row = Row::fresh();
     for (call, frame) in [(Call::Put, 4), (Call::Put, 9), (Call::Touch, 4)] {
         assert_eq!(row.call(call, frame), Ok(0), "P9");
     }
@@ -56,14 +56,14 @@ fn row() {
     assert_eq!((row.call(Call::Start, 4), row.victim()), (Ok(0), Err(refusal(27))), "P10");
     assert_eq!(row.call(Call::Drop, 9), Err(refusal(23)), "P10");
 
-    let mut row = Row::default();
+    let mut row = Row::fresh();
     row.call(Call::Put, 5).unwrap();
     for _ in 0..63 {
         assert_eq!(row.call(Call::Touch, 5), Ok(0), "P11");
     }
     assert_eq!(row.call(Call::Touch, 5), Ok(64), "P11");
 
-    let mut row = Row::default();
+    let mut row = Row::fresh();
     for frame in 0..32 {
         assert_eq!(row.call(Call::Put, frame), Ok(0), "P12");
     }

@@ -1,14 +1,15 @@
-//! An independent simulator, written from docs/RULES.md alone. It shares nothing with the library: it keeps no one-pass
-//! list, runs a plain cache for every capacity, and looks ahead for OPT. Slow and plain on purpose.
+//! The independent simulator, written from docs/RULES.md alone. It shares nothing with the library, its limits neither:
+//! it keeps no one-pass list, runs a plain cache for every capacity, and looks ahead for OPT. Slow and plain on purpose.
 //!
 //! Each call has a function `faults` that lists ALL refusals that apply, in the call's order; the answer is the first
-//! (rule A2). So the harness can also count which refusals it has seen apply at once.
+//! (rule A2). So a comparison can also say which refusals it has seen apply at once.
 
 pub mod cache;
 pub mod file;
 pub mod marked;
 pub mod row;
 pub mod session;
+pub mod slots;
 pub mod trace;
 
 pub const CAPACITIES: usize = 64; // L1

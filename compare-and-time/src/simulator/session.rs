@@ -4,7 +4,7 @@ use super::cache::{policy, Caches, Policy};
 use super::{bad_limit, first, first_bad_page, refusal, Refusal, REFERENCES};
 
 pub struct Session {
-    caches: Caches,
+    pub caches: Caches,
     k: usize,
 }
 
@@ -40,10 +40,6 @@ impl Session {
     pub fn reference(&mut self, page: u16) -> Result<usize, Refusal> {
         first(&self.reference_faults(page))?;
         Ok(self.caches.reference(page, &[]))
-    }
-
-    pub fn list(&self) -> Vec<u16> {
-        self.caches.list()
     }
 
     pub fn accepted(&self) -> usize {

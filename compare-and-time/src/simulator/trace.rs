@@ -48,9 +48,10 @@ pub fn list_faults(trace: &[u16], policy_number: u8, k: usize, t: usize) -> Vec<
     faults
 }
 
-pub fn list(trace: &[u16], policy_number: u8, k: usize, t: usize) -> Result<Vec<u16>, Refusal> {
+/// The caches that the list after t references has to be read off.
+pub fn list(trace: &[u16], policy_number: u8, k: usize, t: usize) -> Result<Caches, Refusal> {
     first(&list_faults(trace, policy_number, k, t))?;
-    Ok(run(trace, policy_number, k, t).list())
+    Ok(run(trace, policy_number, k, t))
 }
 
 fn run(trace: &[u16], policy_number: u8, k: usize, t: usize) -> Caches {
