@@ -1,7 +1,7 @@
 //! Random traces of five kinds, and the lengths, limits and damage that random calls are made with.
 
-use crate::simulator::{CAPACITIES, PAGES, REFERENCES};
 use crate::rng::Rng;
+use crate::simulator::{CAPACITIES, PAGES, REFERENCES};
 
 #[derive(Clone, Copy, Debug)]
 pub enum Kind {

@@ -1,9 +1,9 @@
 //! The plain Rust versions as subjects: a baseline that answers something else is no baseline.
 
 use crate::compare::{row, session, trace, Subject};
+use crate::plain;
 use crate::simulator::row::{Call, CALLS};
 use crate::simulator::{refusal, Refusal};
-use crate::plain;
 use crate::subject::{Counts, Memory, Rows, Sessions};
 
 pub fn subjects() -> Vec<Subject> {

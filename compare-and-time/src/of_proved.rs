@@ -32,8 +32,7 @@ impl Counts for Proved {
 impl Lists for Proved {
     fn list(trace: &[u16], policy: u8, k: usize, t: usize) -> Result<(usize, Vec<u16>), Refusal> {
         let (mut places, mut length) = ([UNTOUCHED; 64], 77);
-        let told =
-            unsafe { ffi::musselrung_list(trace.as_ptr(), trace.len(), policy, k, t, &mut places, &mut length) };
+        let told = unsafe { ffi::musselrung_list(trace.as_ptr(), trace.len(), policy, k, t, &mut places, &mut length) };
         assert!(told.number == 0 || places == [UNTOUCHED; 64] && length == 77, "a refusal wrote a list");
         told.result()?;
         Ok((length, places.to_vec()))
@@ -43,9 +42,8 @@ impl Lists for Proved {
 impl Files for Proved {
     fn read(bytes: &[u8]) -> Result<File, Refusal> {
         let (mut capacities, mut references, mut counts) = ([UNTOUCHED; 64], [UNTOUCHED; 4096], [7; 2]);
-        let told = unsafe {
-            ffi::musselrung_read(bytes.as_ptr(), bytes.len(), &mut capacities, &mut references, &mut counts)
-        };
+        let told =
+            unsafe { ffi::musselrung_read(bytes.as_ptr(), bytes.len(), &mut capacities, &mut references, &mut counts) };
         let kept = if told.number == 0 { counts } else { [0; 2] };
         let unwritten = capacities[kept[0]..].iter().chain(&references[kept[1]..]).all(|&value| value == UNTOUCHED);
         assert!(unwritten, "the reader wrote past its values, or a refusal wrote");
@@ -76,15 +74,8 @@ pub struct Session {
 
 impl Sessions for Session {
     fn start(wanted: u8, limit: usize) -> Result<Session, Refusal> {
-        let before = Session {
-            policy: 9,
-            k: 9,
-            length: 9,
-            references: 9,
-            places: [9; 64],
-            depths: [9; 65],
-            counts: [9; 1024],
-        };
+        let before =
+            Session { policy: 9, k: 9, length: 9, references: 9, places: [9; 64], depths: [9; 65], counts: [9; 1024] };
         let mut session = before.clone();
         let Session { policy, k, length, references, places, depths, counts } = &mut session;
         let told = unsafe {
@@ -104,8 +95,7 @@ impl Sessions for Session {
     fn list(&self) -> (usize, Vec<u16>) {
         let mut shown = [UNTOUCHED; 64];
         let Session { policy, k, length, references, places, .. } = self;
-        let length =
-            unsafe { ffi::musselrung_session_list(*policy, *k, *length, *references, places, &mut shown) };
+        let length = unsafe { ffi::musselrung_session_list(*policy, *k, *length, *references, places, &mut shown) };
         (length, shown.to_vec())
     }
 

@@ -2,9 +2,9 @@
 //! right after the other, and of those the median.
 
 use crate::gen::{self, Kind};
+use crate::rng::Rng;
 use crate::simulator::row::{Call, Row, CALLS};
 use crate::simulator::REFERENCES;
-use crate::rng::Rng;
 use crate::subject::{Counts, Rows, Sessions};
 use std::hint::black_box;
 use std::time::Instant;
@@ -162,7 +162,8 @@ fn victims<R: Rows>(row: &R) {
 
 /// The lines as a table in Markdown.
 pub fn table(lines: &[Line]) -> String {
-    let mut text = String::from("| work | proved, ns | plain Rust, ns | ratio | bar | |\n|---|---:|---:|---:|---:|---|\n");
+    let mut text =
+        String::from("| work | proved, ns | plain Rust, ns | ratio | bar | |\n|---|---:|---:|---:|---:|---|\n");
     for line in lines {
         let verdict = if line.ratio <= line.bar { "within" } else { "MISSED" };
         let Line { work, proved, plain, ratio, bar } = line;

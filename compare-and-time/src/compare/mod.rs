@@ -97,9 +97,7 @@ struct Again {
 impl Again {
     fn text(&self) -> String {
         let Again { name, seed, case } = self;
-        format!(
-            "{name}: case {case} FAILED; run it again: compare-and-time/compare {name} --seed {seed} --only {case}"
-        )
+        format!("{name}: case {case} FAILED; run it again: compare-and-time/compare {name} --seed {seed} --only {case}")
     }
 }
 

@@ -116,8 +116,7 @@ fn start_case<L: Sessions>(case: u64, rng: &mut Rng, tally: &mut Tally) -> Outco
     Ok(())
 }
 
-const FULL: [(u8, usize); 10] =
-    [(0, 1), (0, 2), (0, 3), (0, 63), (0, 64), (1, 1), (1, 2), (1, 3), (1, 63), (1, 64)];
+const FULL: [(u8, usize); 10] = [(0, 1), (0, 2), (0, 3), (0, 63), (0, 64), (1, 1), (1, 2), (1, 3), (1, 63), (1, 64)];
 
 /// A session that is filled, and then asked for pages and for numbers that are none.
 fn full_case<L: Sessions>(case: u64, rng: &mut Rng, tally: &mut Tally) -> Outcome {
