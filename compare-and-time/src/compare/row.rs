@@ -1,4 +1,4 @@
-//! Frame rows: the answer to each call, the slots examined, the whole memory after it, and the victim.
+//! Frame rows: the answer to each call, the slots examined, the victim after it, and the whole memory then.
 
 use super::{same, Outcome, Subject, Tally};
 use crate::rng::Rng;
@@ -41,12 +41,9 @@ impl<L: Rows> Pair<L> {
         if expected.is_ok() {
             self.slots.follow(call, frame);
         }
-        self.memory(&text)
-    }
-
-    fn memory(&self, text: &str) -> Outcome {
-        same(&format!("the memory after {text}"), self.got.memory(), self.expected())?;
-        same("the front with slots, and without", self.slots.front, self.want.front)
+        same("the front with slots, and without", self.slots.front, self.want.front)?;
+        self.victim(tally)?;
+        same(&format!("the memory after {text}, and asking for a victim"), self.got.memory(), self.expected())
     }
 
     fn expected(&self) -> Memory {
@@ -69,7 +66,6 @@ impl<L: Rows> Pair<L> {
         memory
     }
 
-    /// Asking changes nothing: the next call's memory, or the one at the end, would show it.
     fn victim(&self, tally: &mut Tally) -> Outcome {
         let answer = self.want.victim();
         tally.note(&answer.err().into_iter().collect::<Vec<_>>());
@@ -100,6 +96,7 @@ fn drawn_case<L: Rows>(_: u64, rng: &mut Rng, tally: &mut Tally) -> Outcome {
     let length = if rng.percent(5) { rng.within(500, 3000) } else { rng.within(0, 400) };
     let mut mix = rng.pick(&MIXES);
     pair.victim(tally)?;
+    same("the memory of a fresh row", pair.got.memory(), pair.expected())?;
     for i in 0..length {
         if rng.percent(1) {
             mix = rng.pick(&MIXES);
@@ -107,12 +104,7 @@ fn drawn_case<L: Rows>(_: u64, rng: &mut Rng, tally: &mut Tally) -> Outcome {
         let bad = rng.pick(&[64, 65, 128, 200, 255]);
         let frame = if rng.percent(2) { bad } else { rng.below(frames) as u8 };
         pair.call(drawn_call(rng, &mix), frame, tally).map_err(|fault| format!("call {i}: {fault}"))?;
-        if rng.percent(25) {
-            pair.victim(tally)?;
-        }
     }
-    pair.victim(tally)?;
-    pair.memory("the last call")?;
     let Row { examined, moves, .. } = pair.want;
     same("the sum of the slots examined is at most twice the puts and touches", examined <= 2 * moves, true)
 }
@@ -142,8 +134,5 @@ fn row_of<L: Rows>(number: usize, tally: &mut Tally) -> Result<Pair<L>, String> 
 fn call_case<L: Rows>(case: u64, _: &mut Rng, tally: &mut Tally) -> Outcome {
     let (frame, case) = ((case as usize % NUMBERS) as u8, case as usize / NUMBERS);
     let (call, row) = (CALLS[case % CALLS.len()], case / CALLS.len());
-    let mut pair = row_of::<L>(row, tally)?;
-    pair.call(call, frame, tally)?;
-    pair.victim(tally)?;
-    pair.memory("asking for a victim")
+    row_of::<L>(row, tally)?.call(call, frame, tally)
 }
