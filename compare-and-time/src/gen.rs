@@ -100,15 +100,29 @@ pub fn limit(rng: &mut Rng) -> usize {
     }
 }
 
+/// Numbers that are no limit and no capacity: 0, those next to the largest one, and wide ones.
+pub const BAD_LIMITS: [usize; 9] =
+    [0, CAPACITIES + 1, CAPACITIES + 2, 2 * CAPACITIES, 4 * CAPACITIES, 65_536, 1 << 32, (1 << 32) + 1, usize::MAX];
+
 pub fn bad_limit(rng: &mut Rng) -> usize {
-    let wide = rng.next() as usize | 128;
-    rng.pick(&[0, 0, 65, 66, 128, 256, 65_536, 1 << 32, (1 << 32) + 1, usize::MAX, wide])
+    if rng.percent(10) {
+        return rng.next() as usize | 65_536;
+    }
+    rng.pick(&BAD_LIMITS)
 }
+
+pub const BAD_PAGES: [u16; 6] = [PAGES, PAGES + 1, 2 * PAGES, 16_384, 32_768, 65_535];
 
 pub fn bad_page(rng: &mut Rng) -> u16 {
     let any = rng.within(PAGES as usize, 65_535) as u16;
-    rng.pick(&[1024, 1025, 2048, 16_384, 32_768, 65_535, any])
+    if rng.percent(10) {
+        return any;
+    }
+    rng.pick(&BAD_PAGES)
 }
+
+/// Numbers of references that are too many.
+pub const TOO_LONG: [usize; 4] = [REFERENCES + 1, REFERENCES + 2, 2 * REFERENCES, 2 * REFERENCES + 1];
 
 /// Puts one to three bad pages anywhere into a trace that is not empty.
 pub fn spoil(rng: &mut Rng, trace: &mut [u16]) {

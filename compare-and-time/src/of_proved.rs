@@ -106,13 +106,13 @@ impl Sessions for Session {
     fn hits(&self, capacity: usize) -> Result<u32, Refusal> {
         let Session { policy, k, length, references, depths, .. } = self;
         let found = unsafe { ffi::musselrung_session_hits(*policy, *k, *length, *references, depths, capacity) };
-        found.result().map(|hits| hits as u32)
+        found.result().map(|hits| hits.try_into().unwrap())
     }
 
     fn misses(&self, capacity: usize) -> Result<u32, Refusal> {
         let Session { policy, k, length, references, depths, .. } = self;
         let found = unsafe { ffi::musselrung_session_misses(*policy, *k, *length, *references, depths, capacity) };
-        found.result().map(|misses| misses as u32)
+        found.result().map(|misses| misses.try_into().unwrap())
     }
 }
 

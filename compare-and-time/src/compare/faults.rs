@@ -3,6 +3,7 @@
 
 use crate::gen;
 use crate::rng::Rng;
+use crate::simulator::{CAPACITIES, PAGES, REFERENCES};
 
 /// What is wrong with a call on a trace.
 #[derive(Clone, Copy)]
@@ -20,11 +21,10 @@ pub struct Call {
 }
 
 const BAD_POLICIES: [u8; 4] = [3, 4, 128, 255];
-const TOO_LONG: [usize; 4] = [4097, 4098, 5000, 9000];
 
 /// A call of any kind, drawn.
 pub fn drawn(rng: &mut Rng, faults: Faults) -> Call {
-    let length = if faults.length { rng.pick(&TOO_LONG) } else { gen::length(rng) };
+    let length = if faults.length { rng.pick(&gen::TOO_LONG) } else { gen::length(rng) };
     let mut trace = gen::any_trace(rng, length);
     if faults.page && length > 0 {
         gen::spoil(rng, &mut trace);
@@ -37,14 +37,15 @@ pub fn drawn(rng: &mut Rng, faults: Faults) -> Call {
 /// How many calls there are for a set of faults: `edge` goes through the values next to each limit.
 pub const EDGES: usize = 60;
 
-/// A call at the edges of the limits: one step outside where there is a fault, and just inside where there is none.
-pub fn at_edge(rng: &mut Rng, faults: Faults, edge: usize, limits: &[usize]) -> Call {
-    let length = pick(if faults.length { &TOO_LONG } else { &[1, 40, 4095, 4096] }, edge);
+/// A call at the edges of the limits: outside where there is a fault, and just inside where there is none. A bad limit is
+/// one of those given.
+pub fn at_edge(rng: &mut Rng, faults: Faults, edge: usize, bad_limits: &[usize]) -> Call {
+    let length = pick(if faults.length { &gen::TOO_LONG } else { &[1, 40, REFERENCES - 1, REFERENCES] }, edge);
     let mut trace = gen::any_trace(rng, length);
     let place = pick(&[0, length / 2, length - 1], edge);
-    trace[place] = pick(if faults.page { &[1024, 1025, 2048, 32_768, 65_535] } else { &[1023, 0] }, edge);
+    trace[place] = pick(if faults.page { &gen::BAD_PAGES } else { &[PAGES - 1, 0] }, edge);
     let policy = pick(if faults.policy { &BAD_POLICIES } else { &[0, 1, 2] }, edge);
-    let k = pick(if faults.limit { limits } else { &[1, 2, 5, 63, 64] }, edge);
+    let k = pick(if faults.limit { bad_limits } else { &[1, 2, 5, CAPACITIES - 1, CAPACITIES] }, edge);
     Call { trace, policies: vec![policy], k }
 }
 

@@ -3,6 +3,11 @@
 use super::faults::pick;
 use crate::gen;
 use crate::rng::Rng;
+use crate::simulator::{CAPACITIES, PAGES, REFERENCES};
+
+/// The largest capacity and the largest count of capacities, and counts that are too large.
+const MOST: u16 = CAPACITIES as u16;
+const TOO_MANY: [u16; 3] = [MOST + 1, MOST + 2, 2 * MOST];
 
 /// A section: its count and its values.
 fn section(values: &[u16]) -> Vec<u8> {
@@ -20,7 +25,7 @@ pub fn small_files(rng: &mut Rng) -> [Vec<u8>; 5] {
     [
         bytes(&[], &[]),
         bytes(&[], &gen::any_trace(rng, 9)),
-        bytes(&[6, 7, 8, 9, 64], &[]),
+        bytes(&[6, 7, 8, 9, MOST], &[]),
         bytes(&[6, 7, 8, 9, 10], &gen::any_trace(rng, 20)),
         bytes(&[1, 3, 4], &sample),
     ]
@@ -31,9 +36,9 @@ pub const SMALL_FILES: [usize; 5] = [4, 22, 14, 54, 34];
 
 /// The file with every number at its limit.
 pub fn longest(rng: &mut Rng) -> Vec<u8> {
-    let capacities: Vec<u16> = (1..=64).collect();
-    let mut references = gen::any_trace(rng, 4096);
-    references[4095] = 1023;
+    let capacities: Vec<u16> = (1..=MOST).collect();
+    let mut references = gen::any_trace(rng, REFERENCES);
+    references[REFERENCES - 1] = PAGES - 1;
     bytes(&capacities, &references)
 }
 
@@ -42,7 +47,7 @@ pub fn longest(rng: &mut Rng) -> Vec<u8> {
 /// together the earlier is taken.
 pub fn with_faults(rng: &mut Rng, bits: usize, edge: usize) -> Vec<u8> {
     let with = |bit: usize| bits >> bit & 1 == 1;
-    let n = if with(2) { pick(&[65, 66, 100], edge) } else { pick(&[6, 64, 3], edge) };
+    let n = pick(if with(2) { &TOO_MANY } else { &[6, MOST, 3] }, edge);
     let mut capacities: Vec<u16> = (1..=n).collect();
     if with(0) {
         capacities[0] = 0;
@@ -50,10 +55,10 @@ pub fn with_faults(rng: &mut Rng, bits: usize, edge: usize) -> Vec<u8> {
     if with(1) {
         capacities[2] = capacities[1] - (edge % 2) as u16;
     }
-    let length = if with(6) { pick(&[4097, 4098, 5000], edge) } else { pick(&[8, 9, 4096], edge) };
+    let length = pick(if with(6) { &gen::TOO_LONG } else { &[8, 9, REFERENCES - 1, REFERENCES] }, edge);
     let mut references = gen::any_trace(rng, length);
     if with(7) {
-        references[pick(&[0, length / 2, length - 1], edge)] = pick(&[1024, 1025, 32_768, 65_535], edge);
+        references[pick(&[0, length / 2, length - 1], edge)] = pick(&gen::BAD_PAGES, edge);
     }
     let mut file = bytes(&capacities, &references);
     let start = 2 + 2 * capacities.len();
@@ -102,11 +107,11 @@ pub fn drawn(rng: &mut Rng) -> Vec<u8> {
 
 fn broken(rng: &mut Rng, bits: usize) -> Vec<u8> {
     let with = |bit: usize| bits >> bit & 1 == 1;
-    let mut capacities: Vec<u16> = (1..=64).filter(|_| rng.percent(20)).collect();
+    let mut capacities: Vec<u16> = (1..=MOST).filter(|_| rng.percent(20)).collect();
     if with(0) {
         spoil_capacities(rng, &mut capacities);
     }
-    let length = if with(1) { rng.pick(&[4097, 4100]) } else { gen::length(rng) };
+    let length = if with(1) { rng.pick(&gen::TOO_LONG) } else { gen::length(rng) };
     let mut references = gen::any_trace(rng, length);
     if with(2) && length > 0 {
         gen::spoil(rng, &mut references);
@@ -124,9 +129,9 @@ fn broken(rng: &mut Rng, bits: usize) -> Vec<u8> {
 fn spoil_capacities(rng: &mut Rng, capacities: &mut Vec<u16>) {
     match rng.below(5) {
         0 => capacities.insert(0, 0),
-        1 => capacities.push(rng.pick(&[65, 66, 256, 65_535])),
+        1 => capacities.push(rng.pick(&[MOST + 1, MOST + 2, 4 * MOST, u16::MAX])),
         2 => capacities.extend([7, 7]),
         3 => capacities.extend([9, 3]),
-        _ => *capacities = (1..=rng.pick(&[65, 66, 100])).collect(),
+        _ => *capacities = (1..=rng.pick(&TOO_MANY)).collect(),
     }
 }

@@ -2,6 +2,7 @@
 
 use super::faults::{at_edge, drawn, pick, Call, Faults, EDGES};
 use super::{all_sets, chosen, numbers, same, same_list, Outcome, Subject, Tally};
+use crate::gen::BAD_LIMITS;
 use crate::rng::Rng;
 use crate::simulator::trace::{list, list_faults};
 use crate::subject::Lists;
@@ -39,7 +40,7 @@ fn drawn_case<L: Lists>(_: u64, rng: &mut Rng, tally: &mut Tally) -> Outcome {
 fn fault_case<L: Lists>(case: u64, rng: &mut Rng, tally: &mut Tally) -> Outcome {
     let (bits, edge) = (case as usize % SETS, case as usize / SETS);
     let (faults, beyond) = faults(bits);
-    let call = at_edge(rng, faults, edge, &[0, 65, 66, 128, 256, 65_536, 1 << 32, (1 << 32) + 1, usize::MAX]);
+    let call = at_edge(rng, faults, edge, &BAD_LIMITS);
     let length = call.trace.len();
     let (inside, outside) = ([length, length / 2, 0], [length + 1, length + 5000, usize::MAX]);
     let t = pick(if beyond { &outside } else { &inside }, edge);

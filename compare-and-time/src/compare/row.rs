@@ -4,7 +4,7 @@ use super::{same, Outcome, Subject, Tally};
 use crate::rng::Rng;
 use crate::simulator::row::{Call, Row, State, CALLS};
 use crate::simulator::slots::Slots;
-use crate::simulator::{FRAMES, SLOTS};
+use crate::simulator::{FRAMES, HELD, SLOTS};
 use crate::subject::{Memory, Rows};
 
 pub fn subjects<L: Rows>() -> Vec<Subject> {
@@ -92,7 +92,7 @@ fn drawn_call(rng: &mut Rng, mix: &[usize; 5]) -> Call {
 /// Long random sequences of calls.
 fn drawn_case<L: Rows>(_: u64, rng: &mut Rng, tally: &mut Tally) -> Outcome {
     let mut pair = Pair::<L>::fresh();
-    let frames = rng.pick(&[1, 2, 5, 20, 32, 33, 40, 64]);
+    let frames = rng.pick(&[1, 2, 5, 20, HELD, HELD + 1, 40, usize::from(FRAMES)]);
     let length = if rng.percent(5) { rng.within(500, 3000) } else { rng.within(0, 400) };
     let mut mix = rng.pick(&MIXES);
     pair.victim(tally)?;
@@ -101,7 +101,7 @@ fn drawn_case<L: Rows>(_: u64, rng: &mut Rng, tally: &mut Tally) -> Outcome {
         if rng.percent(1) {
             mix = rng.pick(&MIXES);
         }
-        let bad = rng.pick(&[64, 65, 128, 200, 255]);
+        let bad = rng.pick(&[FRAMES, FRAMES + 1, 128, 200, 255]);
         let frame = if rng.percent(2) { bad } else { rng.below(frames) as u8 };
         pair.call(drawn_call(rng, &mix), frame, tally).map_err(|fault| format!("call {i}: {fault}"))?;
     }
@@ -109,12 +109,12 @@ fn drawn_case<L: Rows>(_: u64, rng: &mut Rng, tally: &mut Tally) -> Outcome {
     same("the sum of the slots examined is at most twice the puts and touches", examined <= 2 * moves, true)
 }
 
-/// Rows with none, one, 31 or 32 frames, of which none, every second or all are busy, the front at 0 or above it.
+/// Rows with no frame, one, all that can be held but one, or all, of which none, every second or all are busy, the front at 0 or above it.
 const ROWS: usize = 4 * 3 * 2;
 const NUMBERS: usize = 256;
 
 fn row_of<L: Rows>(number: usize, tally: &mut Tally) -> Result<Pair<L>, String> {
-    let frames = [0, 1, 31, 32][number % 4];
+    let frames = [0, 1, HELD - 1, HELD][number % 4] as u8;
     let busy: fn(u8) -> bool = [|_| false, |frame| frame % 2 == 1, |_| true][number / 4 % 3];
     let front_at_0 = number / 12 == 1 && frames > 0;
     let mut pair = Pair::<L>::fresh();

@@ -4,7 +4,7 @@ use super::{all_sets, same, same_list, Outcome, Subject, Tally};
 use crate::gen;
 use crate::rng::Rng;
 use crate::simulator::session::{start, start_faults, Session};
-use crate::simulator::REFERENCES;
+use crate::simulator::{CAPACITIES, PAGES, REFERENCES};
 use crate::subject::Sessions;
 
 pub fn subjects<L: Sessions>() -> Vec<Subject> {
@@ -15,7 +15,7 @@ pub fn subjects<L: Sessions>() -> Vec<Subject> {
     vec![
         Subject { name: "sessions", short: 5_000, full: 100_000, case: drawn_case::<L>, sets: all },
         Subject::every("session-starts", POLICIES * LIMITS, start_case::<L>, starts),
-        Subject::every("full-sessions", FULL.len(), full_case::<L>, references),
+        Subject::every("full-sessions", 2 * FULL.len(), full_case::<L>, references),
     ]
 }
 
@@ -67,14 +67,13 @@ impl<L: Sessions> Pair<L> {
 
     /// The same at every capacity, and at some that are none.
     fn read_all(&self, tally: &mut Tally) -> Outcome {
-        let capacities: Vec<usize> = (0..=self.k + 1).chain([65, 256, 1 << 32, usize::MAX]).collect();
+        let capacities: Vec<usize> = (0..=self.k + 1).chain(gen::BAD_LIMITS).collect();
         self.read(&capacities, tally)
     }
 
     fn read_some(&self, rng: &mut Rng, tally: &mut Tally) -> Outcome {
-        let (k, wide) = (self.k, rng.next() as usize | 128);
-        let capacities = [1, k, rng.within(1, k), 0, k + 1, rng.within(1, 64), 65, wide, usize::MAX];
-        self.read(&capacities, tally)
+        let k = self.k;
+        self.read(&[1, k, rng.within(1, k), 0, k + 1, rng.within(1, CAPACITIES), gen::bad_limit(rng)], tally)
     }
 }
 
@@ -99,14 +98,13 @@ fn drawn_case<L: Sessions>(_: u64, rng: &mut Rng, tally: &mut Tally) -> Outcome 
 }
 
 const POLICIES: usize = 256;
-/// Every limit up to past the largest, then some that are wide.
-const LIMITS: usize = 67 + WIDE.len();
-const WIDE: [usize; 9] = [127, 128, 256, 257, 65_536, 65_537, 1 << 32, (1 << 32) + 1, usize::MAX];
+/// Every limit up to the largest, then those that are none.
+const LIMITS: usize = CAPACITIES + gen::BAD_LIMITS.len();
 
 /// Every policy number with every limit; a session that starts is read whole after each of some references.
 fn start_case<L: Sessions>(case: u64, rng: &mut Rng, tally: &mut Tally) -> Outcome {
     let (policy, at) = ((case as usize % POLICIES) as u8, case as usize / POLICIES);
-    let k = if at < 67 { at } else { WIDE[at - 67] };
+    let k = if at < CAPACITIES { at + 1 } else { gen::BAD_LIMITS[at - CAPACITIES] };
     let Some(mut pair) = Pair::<L>::start(policy, k, tally)? else { return Ok(()) };
     pair.read_all(tally)?;
     for page in gen::any_trace(rng, 1 + k * 7 % 60) {
@@ -116,18 +114,19 @@ fn start_case<L: Sessions>(case: u64, rng: &mut Rng, tally: &mut Tally) -> Outco
     Ok(())
 }
 
-const FULL: [(u8, usize); 10] = [(0, 1), (0, 2), (0, 3), (0, 63), (0, 64), (1, 1), (1, 2), (1, 3), (1, 63), (1, 64)];
+/// Limits of sessions that are filled, under each of the two policies.
+const FULL: [usize; 5] = [1, 2, 3, CAPACITIES - 1, CAPACITIES];
 
 /// A session that is filled, and then asked for pages and for numbers that are none.
 fn full_case<L: Sessions>(case: u64, rng: &mut Rng, tally: &mut Tally) -> Outcome {
-    let (policy, k) = FULL[case as usize];
+    let (policy, k) = ((case as usize / FULL.len()) as u8, FULL[case as usize % FULL.len()]);
     let mut pair = Pair::<L>::start(policy, k, tally)?.ok_or("no session")?;
-    pair.refer(1024, tally)?;
+    pair.refer(PAGES, tally)?;
     let pages = gen::any_trace(rng, REFERENCES);
     for &page in &pages {
         pair.refer(page, tally)?;
     }
-    for page in [pages[0], pages[REFERENCES - 1], 0, 1023, 1024, 65_535] {
+    for page in [pages[0], pages[REFERENCES - 1], 0, PAGES - 1, PAGES, u16::MAX] {
         pair.read_all(tally)?;
         pair.refer(page, tally)?;
     }

@@ -2,13 +2,17 @@
 
 use super::faults::{at_edge, drawn, Call, Faults, EDGES};
 use super::{all_sets, chosen, numbers, same, Outcome, Subject, Tally};
+use crate::gen::BAD_LIMITS;
 use crate::rng::Rng;
 use crate::simulator::trace::{count, count_faults};
+use crate::simulator::CAPACITIES;
 use crate::subject::Counts;
 
 /// Order O1.
 const ORDER: [u8; 5] = [5, 1, 2, 4, 3];
 const SETS: usize = 32;
+/// No larger table is lent.
+const MOST: usize = 5 * CAPACITIES;
 
 pub fn subjects<L: Counts>() -> Vec<Subject> {
     let sets = all_sets(&ORDER);
@@ -28,7 +32,7 @@ fn faults(bits: usize) -> (Faults, bool) {
 fn drawn_case<L: Counts>(_: u64, rng: &mut Rng, tally: &mut Tally) -> Outcome {
     let (faults, short) = faults(if rng.percent(80) { 0 } else { rng.below(SETS) });
     let call = drawn(rng, faults);
-    let room = if short { rng.below(call.k.clamp(1, 300)) } else { call.k.min(300) + rng.below(4) };
+    let room = if short { rng.below(call.k.clamp(1, MOST)) } else { call.k.min(MOST) + rng.below(4) };
     compare::<L>(&call, &table(rng, room), tally).map(|_| ())
 }
 
@@ -36,11 +40,10 @@ fn drawn_case<L: Counts>(_: u64, rng: &mut Rng, tally: &mut Tally) -> Outcome {
 fn fault_case<L: Counts>(case: u64, rng: &mut Rng, tally: &mut Tally) -> Outcome {
     let (bits, edge) = (case as usize % SETS, case as usize / SETS);
     let (faults, short) = faults(bits);
-    // a limit of 0 has no shorter table, and one past all memory no table that is long enough
-    let limits: &[usize] =
-        if short { &[65, 66, 128, 256, 65_536, 1 << 32, (1 << 32) + 1, usize::MAX] } else { &[0, 65, 66, 128, 256] };
+    // a limit of 0, which is first, has no shorter table, and a wide one no table that is long enough
+    let limits = if short { &BAD_LIMITS[1..] } else { &BAD_LIMITS[..5] };
     let call = at_edge(rng, faults, edge, limits);
-    let room = if short { (call.k - 1).min(300) } else { call.k + edge % 3 };
+    let room = if short { (call.k - 1).min(MOST) } else { call.k + edge % 3 };
     let met = compare::<L>(&call, &table(rng, room), tally)?;
     same("the faults of the case", met, chosen(&ORDER, bits))
 }
