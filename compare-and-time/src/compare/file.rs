@@ -2,7 +2,7 @@
 //! every place, with every byte changed, and drawn ones.
 
 use super::file_bytes::{drawn, longest, refusals, small_files, with_faults, SMALL_FILES};
-use super::{all_sets, numbers, same, Outcome, Subject, Tally};
+use super::{all_sets, made_with, must, numbers, same, Outcome, Subject, Tally};
 use crate::rng::Rng;
 use crate::simulator::file::{faults, read, report};
 use crate::subject::Files;
@@ -43,7 +43,7 @@ const EDGES: usize = 6;
 fn fault_case<L: Files>(case: u64, rng: &mut Rng, tally: &mut Tally) -> Outcome {
     let (bits, edge) = (case as usize % SETS, case as usize / SETS);
     let file = with_faults(rng, bits, edge);
-    same("the faults of the case", numbers(&faults(&file)), refusals(bits))?;
+    made_with(refusals(bits), numbers(&faults(&file)))?;
     compare_both::<L>(&file, tally)
 }
 
@@ -55,7 +55,7 @@ fn damage_case<L: Files>(case: u64, rng: &mut Rng, tally: &mut Tally) -> Outcome
         file += 1;
     }
     let whole = &small_files(rng)[file];
-    same("the length of the file", whole.len(), SMALL_FILES[file])?;
+    must(whole.len() == SMALL_FILES[file], "each small file is as long as it is said to be")?;
     compare_both::<L>(&whole[..place], tally)?;
     compare_both::<L>(&[&whole[..], &whole[..place]].concat(), tally)?;
     for change in 0..=255 {
@@ -69,7 +69,7 @@ fn damage_case<L: Files>(case: u64, rng: &mut Rng, tally: &mut Tally) -> Outcome
 /// The longest file, a byte less, a byte more, and many more.
 fn longest_case<L: Files>(_: u64, rng: &mut Rng, tally: &mut Tally) -> Outcome {
     let mut file = longest(rng);
-    same("the length of the longest file", file.len(), 8324)?;
+    must(file.len() == 8324, "the longest file has 8,324 bytes")?;
     compare_both::<L>(&file, tally)?;
     compare_both::<L>(&file[..8323], tally)?;
     file.resize(20_000, 0);

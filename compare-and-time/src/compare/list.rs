@@ -1,7 +1,7 @@
 //! The list of a trace after its first t references, for every policy.
 
 use super::faults::{at_edge, drawn, pick, Call, Faults, EDGES};
-use super::{all_sets, chosen, numbers, same, same_list, Outcome, Subject, Tally};
+use super::{all_sets, chosen, made_with, numbers, same, same_list, Outcome, Subject, Tally};
 use crate::gen::BAD_LIMITS;
 use crate::rng::Rng;
 use crate::simulator::trace::{list, list_faults};
@@ -44,8 +44,7 @@ fn fault_case<L: Lists>(case: u64, rng: &mut Rng, tally: &mut Tally) -> Outcome 
     let length = call.trace.len();
     let (inside, outside) = ([length, length / 2, 0], [length + 1, length + 5000, usize::MAX]);
     let t = pick(if beyond { &outside } else { &inside }, edge);
-    let met = compare::<L>(&call, t, tally)?;
-    same("the faults of the case", met, chosen(&ORDER, bits))
+    made_with(chosen(&ORDER, bits), compare::<L>(&call, t, tally)?)
 }
 
 /// Compares the call under each of its policies, and answers which refusals applied.

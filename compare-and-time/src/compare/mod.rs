@@ -75,6 +75,19 @@ pub fn same<T: PartialEq + Debug>(what: &str, got: T, want: T) -> Outcome {
     Err(format!("{what}: the library says {got:?}, the simulator {want:?}"))
 }
 
+/// What has to hold beside that the answers are the same.
+pub fn must(holds: bool, what: &str) -> Outcome {
+    if holds {
+        return Ok(());
+    }
+    Err(format!("not so: {what}"))
+}
+
+/// A case made with these faults must be one to which exactly these refusals apply.
+pub fn made_with(asked: Vec<u8>, met: Vec<u8>) -> Outcome {
+    must(asked == met, &format!("the case is made for the refusals {asked:?}, and the simulator sees {met:?}"))
+}
+
 /// A list as a library shows it: its places are those of the plain caches (demand D3), its length is theirs, and past it
 /// there are zeros (rule A6).
 pub fn same_list(shown: (usize, Vec<u16>), k: usize, caches: &Caches) -> Outcome {
@@ -84,7 +97,7 @@ pub fn same_list(shown: (usize, Vec<u16>), k: usize, caches: &Caches) -> Outcome
         let (places, held) = (&places[..length.min(c)], caches.held(c));
         return Err(format!("the first {c} places have {places:?}, a plain cache of {c} frames {held:?}"));
     }
-    same("places past the list's length are 0", places[length..].iter().all(|&page| page == 0), true)
+    must(places[length..].iter().all(|&page| page == 0), "places past the list's length are 0")
 }
 
 /// How to run a case again; also said where the case panics.

@@ -1,6 +1,6 @@
 //! Frame rows: the answer to each call, the slots examined, the victim after it, and the whole memory then.
 
-use super::{same, Outcome, Subject, Tally};
+use super::{must, same, Outcome, Subject, Tally};
 use crate::rng::Rng;
 use crate::simulator::row::{Call, Row, State, CALLS};
 use crate::simulator::slots::Slots;
@@ -41,7 +41,7 @@ impl<L: Rows> Pair<L> {
         if expected.is_ok() {
             self.slots.follow(call, frame);
         }
-        same("the front with slots, and without", self.slots.front, self.want.front)?;
+        must(self.slots.front == self.want.front, "the simulator's front is the same with slots and without")?;
         self.victim(tally)?;
         same(&format!("the memory after {text}, and asking for a victim"), self.got.memory(), self.expected())
     }
@@ -106,7 +106,7 @@ fn drawn_case<L: Rows>(_: u64, rng: &mut Rng, tally: &mut Tally) -> Outcome {
         pair.call(drawn_call(rng, &mix), frame, tally).map_err(|fault| format!("call {i}: {fault}"))?;
     }
     let Row { examined, moves, .. } = pair.want;
-    same("the sum of the slots examined is at most twice the puts and touches", examined <= 2 * moves, true)
+    must(examined <= 2 * moves, "the sum of the slots examined is at most twice the puts and touches")
 }
 
 /// Rows with no frame, one, all that can be held but one, or all, of which none, every second or all are busy, the front at 0 or above it.

@@ -1,6 +1,6 @@
 //! Sessions: the answer to each reference, everything that can be read after it, and the memory that a refusal leaves.
 
-use super::{all_sets, same, same_list, Outcome, Subject, Tally};
+use super::{all_sets, must, same, same_list, Outcome, Subject, Tally};
 use crate::gen;
 use crate::rng::Rng;
 use crate::simulator::session::{start, start_faults, Session};
@@ -46,10 +46,7 @@ impl<L: Sessions> Pair<L> {
         tally.note(&faults);
         let text = format!("policy {}, K {}, reference to {page}", self.policy, self.k);
         same(&text, self.got.reference(page), self.want.reference(page))?;
-        match before {
-            Some(before) if self.got != before => Err(format!("{text}: a refusal changed the session")),
-            _ => Ok(()),
-        }
+        must(before.map_or(true, |before| before == self.got), &format!("{text}: a refusal leaves the session"))
     }
 
     /// The list, the references accepted, and the hits and misses at these capacities.

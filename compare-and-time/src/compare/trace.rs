@@ -1,7 +1,7 @@
 //! Whole traces: the answer and the whole hit table after the call, for every policy.
 
 use super::faults::{at_edge, drawn, Call, Faults, EDGES};
-use super::{all_sets, chosen, numbers, same, Outcome, Subject, Tally};
+use super::{all_sets, chosen, made_with, numbers, same, Outcome, Subject, Tally};
 use crate::gen::BAD_LIMITS;
 use crate::rng::Rng;
 use crate::simulator::trace::{count, count_faults};
@@ -44,8 +44,7 @@ fn fault_case<L: Counts>(case: u64, rng: &mut Rng, tally: &mut Tally) -> Outcome
     let limits = if short { &BAD_LIMITS[1..] } else { &BAD_LIMITS[..5] };
     let call = at_edge(rng, faults, edge, limits);
     let room = if short { (call.k - 1).min(MOST) } else { call.k + edge % 3 };
-    let met = compare::<L>(&call, &table(rng, room), tally)?;
-    same("the faults of the case", met, chosen(&ORDER, bits))
+    made_with(chosen(&ORDER, bits), compare::<L>(&call, &table(rng, room), tally)?)
 }
 
 fn table(rng: &mut Rng, room: usize) -> Vec<u32> {
