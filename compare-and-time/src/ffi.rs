@@ -12,11 +12,12 @@ pub struct Told {
 }
 
 impl Told {
+    /// Without a refusal the place is 0 too; another one would show as a refusal that no rule has.
     #[inline]
     pub fn result(self) -> Result<(), Refusal> {
-        match self.number {
-            0 => Ok(()),
-            number => Err(Refusal { number, place: self.place }),
+        match (self.number, self.place) {
+            (0, 0) => Ok(()),
+            (number, place) => Err(Refusal { number, place }),
         }
     }
 }

@@ -72,6 +72,12 @@ pub struct Session {
     counts: [u16; 1024],
 }
 
+impl Session {
+    fn cleared(policy: u8, k: usize) -> Session {
+        Session { policy, k, length: 0, references: 0, places: [0; 64], depths: [0; 65], counts: [0; 1024] }
+    }
+}
+
 impl Sessions for Session {
     fn start(wanted: u8, limit: usize) -> Result<Session, Refusal> {
         let before =
@@ -83,6 +89,7 @@ impl Sessions for Session {
         };
         assert!(told.number == 0 || session == before, "a refused start wrote");
         told.result()?;
+        assert!(session == Session::cleared(wanted, limit), "a session starts with something in its memory");
         Ok(session)
     }
 
@@ -145,6 +152,7 @@ impl Rows for Row {
     fn victim(&self) -> Result<u8, Refusal> {
         let Memory { slots, states, front, held, .. } = &self.0;
         let ffi::Chosen { number, frame, place } = unsafe { ffi::musselrung_row_victim(slots, states, *front, *held) };
+        assert!(number == 0 || frame == 0, "a refusal gave a frame");
         ffi::Told { number, place }.result().map(|()| frame)
     }
 
