@@ -1,0 +1,121 @@
+//! A frame row that changes in place.
+
+use crate::subject::Memory;
+
+const FRAMES: u8 = 64;
+const SLOTS: usize = 64;
+const HELD: usize = 32;
+const EMPTY: u8 = FRAMES;
+
+const ABSENT: u8 = 0;
+const IDLE: u8 = 1;
+const BUSY: u8 = 2;
+
+pub const PUT: usize = 0;
+pub const TOUCH: usize = 1;
+pub const DROP: usize = 4;
+
+/// The next state, or the number of the refusal: by state, then by put, touch, start, end, drop.
+const NEXT: [[u8; 5]; 3] = [[IDLE, 22, 22, 22, 22], [21, IDLE, BUSY, 24, ABSENT], [21, BUSY, 23, IDLE, 23]];
+
+#[derive(Clone)]
+pub struct Row {
+    slots: [u8; SLOTS],
+    /// Which slot a held frame has.
+    places: [u8; 64],
+    states: [u8; 64],
+    front: usize,
+    held: usize,
+}
+
+impl Row {
+    pub fn new() -> Row {
+        Row { slots: [EMPTY; SLOTS], places: [0; 64], states: [ABSENT; 64], front: SLOTS, held: 0 }
+    }
+
+    /// The slots examined, or the number of the refusal.
+    #[inline(never)]
+    pub fn call(&mut self, call: usize, frame: u8) -> Result<usize, u8> {
+        if frame >= FRAMES {
+            return Err(20);
+        }
+        let state = &mut self.states[usize::from(frame)];
+        let next = NEXT[usize::from(*state)][call];
+        if next > BUSY {
+            return Err(next);
+        }
+        if call == PUT && self.held == HELD {
+            return Err(25);
+        }
+        *state = next;
+        match call {
+            PUT => {
+                self.held += 1;
+                Ok(self.place(frame))
+            }
+            TOUCH => {
+                self.empty(frame);
+                Ok(self.place(frame))
+            }
+            DROP => {
+                self.held -= 1;
+                self.empty(frame);
+                Ok(0)
+            }
+            _ => Ok(0),
+        }
+    }
+
+    fn empty(&mut self, frame: u8) {
+        self.slots[usize::from(self.places[usize::from(frame)])] = EMPTY;
+    }
+
+    fn place(&mut self, frame: u8) -> usize {
+        let mut examined = 0;
+        if self.front == 0 {
+            self.squeeze();
+            examined = SLOTS;
+        }
+        self.front -= 1;
+        self.seat(self.front, frame);
+        examined
+    }
+
+    fn seat(&mut self, slot: usize, frame: u8) {
+        self.slots[slot] = frame;
+        self.places[usize::from(frame)] = slot as u8;
+    }
+
+    fn squeeze(&mut self) {
+        let mut to = SLOTS;
+        for from in (0..SLOTS).rev() {
+            let frame = self.slots[from];
+            if frame != EMPTY {
+                self.slots[from] = EMPTY;
+                to -= 1;
+                self.seat(to, frame);
+            }
+        }
+        self.front = to;
+    }
+
+    /// The idle frame nearest the old end, or the number of the refusal.
+    #[inline(never)]
+    pub fn victim(&self) -> Result<u8, u8> {
+        if self.held == 0 {
+            return Err(26);
+        }
+        let idle = |frame: u8| frame != EMPTY && self.states[usize::from(frame)] == IDLE;
+        match self.slots[self.front..].iter().rev().find(|&&frame| idle(frame)) {
+            Some(&frame) => Ok(frame),
+            None => Err(27),
+        }
+    }
+
+    /// The slot of an absent frame is left as it was, and shown as none.
+    pub fn memory(&self) -> Memory {
+        let Row { slots, mut places, states, front, held } = self.clone();
+        (0..places.len()).filter(|&i| states[i] == ABSENT).for_each(|i| places[i] = EMPTY);
+        Memory { slots, places, states, front, held }
+    }
+}

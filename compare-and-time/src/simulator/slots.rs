@@ -1,0 +1,52 @@
+//! The slots of the row, as rules W1 to W4 move frames about in them. No answer is read off them: they are what the
+//! row's memory has to show.
+
+use super::row::Call;
+use super::SLOTS;
+
+#[derive(Clone)]
+pub struct Slots {
+    pub slots: [Option<u8>; SLOTS],
+    pub front: usize,
+}
+
+impl Slots {
+    pub fn fresh() -> Slots {
+        Slots { slots: [None; SLOTS], front: SLOTS }
+    }
+
+    /// What an accepted call does.
+    pub fn follow(&mut self, call: Call, frame: u8) {
+        match call {
+            Call::Put => self.put(frame),
+            Call::Touch => {
+                self.empty(frame);
+                self.put(frame);
+            }
+            Call::Start | Call::End => {}
+            Call::Drop => self.empty(frame),
+        }
+    }
+
+    fn put(&mut self, frame: u8) {
+        if self.front == 0 {
+            self.squeeze();
+        }
+        self.front -= 1;
+        self.slots[self.front] = Some(frame);
+    }
+
+    fn squeeze(&mut self) {
+        let frames: Vec<u8> = self.slots.iter().flatten().copied().collect();
+        self.front = SLOTS - frames.len();
+        self.slots = [None; SLOTS];
+        for (i, &held) in frames.iter().enumerate() {
+            self.slots[self.front + i] = Some(held);
+        }
+    }
+
+    fn empty(&mut self, frame: u8) {
+        let at = self.slots.iter().position(|slot| *slot == Some(frame)).unwrap();
+        self.slots[at] = None;
+    }
+}
