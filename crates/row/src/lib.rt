@@ -26,7 +26,11 @@ use table::recount;
 use table::verdict;
 ghost use mathlib.Core.Path.{_≡_};
 ghost use Rattle.row_theory.specs.Runs.{Reached};
-ghost use Rattle.row_theory.specs.Promise.{memory, Stands, asked, Answered, Started, Kept, Among, Oldest-idle, stateIn};
+ghost use Rattle.row_theory.specs.Row.{anyFrame, hasMark};
+ghost use Rattle.row_theory.specs.Promise.{memory, rowWith, Stands, asked, Answered, Started, Oldest-idle, stateIn};
+
+// The mark of a frame that may be given up.
+const GIVABLE: u8 = 1;
 
 // One of the five calls: put, touch, start, end or drop of a frame (rules W2 to W6, O6). A refusal leaves the row as it was.
 pub fn call(
@@ -73,18 +77,27 @@ pub fn fresh(
     *held = 0;
 }
 
-// The frame nearest the old end among those whose mark is 1 (rule W7): 26 if nothing is held, 27 if no held frame has the mark.
-pub fn victim_among(slots: &PerSlot, marks: &PerFrame, front: usize, held: usize) -> Victim
-    requires { ⌜ Kept (now slots) front held ⌝ }
-    ensures { λ r. ⌜ Among (now (slots .entry)) (now (marks .entry)) held r ⌝ }
+// The oldest frame that is idle and whose mark is 1 (rule W7): 26 if nothing is held, 27 if frames are held but none is such a one. Whatever
+// the marks, a busy frame is not given. The scan starts at the old end, so that it ends at the first frame that may be given up.
+pub fn victim_among(
+    slots: &PerSlot,
+    states: &PerFrame,
+    marks: &PerFrame,
+    front: usize,
+    held: usize,
+) -> Victim
+    requires { ⌜ Reached (rowWith (now slots) (now states) front held) ⌝ }
+    ensures { λ r. ⌜ Oldest-idle (rowWith (now (slots .entry)) (now (states .entry)) front held) (hasMark (now (marks .entry))) r ⌝ }
 {
     let mut i = SLOTS;
     while front < i {
         i -= 1;
         let frame = slots[i];
         if frame < FRAMES {
-            if marks[frame as usize] == IDLE {
-                return Victim::Given(Frame(frame));
+            if states[frame as usize] == IDLE {
+                if marks[frame as usize] == GIVABLE {
+                    return Victim::Given(Frame(frame));
+                }
             }
         }
     }
@@ -100,12 +113,12 @@ pub fn victim_among(slots: &PerSlot, marks: &PerFrame, front: usize, held: usize
     })
 }
 
-// The idle frame nearest the old end (rule W7).
+// The oldest idle frame (rule W7). The states serve as marks: idle reads 1, so every idle frame bears one.
 pub fn victim(slots: &PerSlot, states: &PerFrame, front: usize, held: usize) -> Victim
-    requires { ⌜ Reached (record { slots = now slots; states = now states; front = front; held = held }) ⌝ }
-    ensures { λ r. ⌜ Oldest-idle (record { slots = now (slots .entry); states = now (states .entry); front = front; held = held }) r ⌝ }
+    requires { ⌜ Reached (rowWith (now slots) (now states) front held) ⌝ }
+    ensures { λ r. ⌜ Oldest-idle (rowWith (now (slots .entry)) (now (states .entry)) front held) anyFrame r ⌝ }
 {
-    victim_among(slots, states, front, held)
+    victim_among(slots, states, states, front, held)
 }
 
 // The state of one frame, whatever its number: 0 absent, 1 idle, 2 busy.

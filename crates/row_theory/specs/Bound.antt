@@ -14,7 +14,7 @@ use Rattle.row_theory.specs.Slots.{framesIn, frontThen, examinedThen}
 use Rattle.row_theory.specs.Row.{Row, fresh, moved, replyOf, examinedOf}
 use Rattle.row_theory.specs.History.{statesAfter, movesLast, movesAfter}
 use Rattle.row_theory.specs.Runs.{rowAfter, examinedAfter}
-use Rattle.row_theory.specs.Counting.{by-test}
+use Rattle.rules.specs.Cases.{by-cases}
 use Rattle.row_theory.specs.RecentLaws.{length-then}
 use Rattle.row_theory.specs.StepLaws.{Stepped, slot-step}
 use Rattle.row_theory.specs.GoodStates.{good-after, good-then, held-then}
@@ -46,7 +46,7 @@ examined-refused row call e = rw e
 -- W5: exactly an accepted put or touch that finds the front at 0 examines slots, and then 64
 pub examined-rule : (row : Row) (call : Call) → examinedOf (replyOf row call) ≡ cond (accepts (row .states) call && (moves (call .event) && eqb (row .front) 0)) slots 0
 examined-rule row call =
-    by-test (accepts (row .states) call)
+    by-cases (accepts (row .states) call)
     (λ e. rw (examined-accepted row call e, e) (unfold examinedThen in refl))
     (λ e. rw (examined-refused row call e, e))
 
@@ -89,7 +89,7 @@ paid-then : (call : Call) (history : List Call) → Paid (examinedAfter history)
 unfolding examinedAfter movesAfter rowAfter movesLast examinedThen moved
 paid-then call history paid =
     let sound = sound-after history in
-    by-test (accepts (statesAfter history) call)
+    by-cases (accepts (statesAfter history) call)
     (λ e. let yes-row : accepts (rowAfter history .states) call ≡ true = rw (sound .sameStates) e in
     rw (examined-accepted (rowAfter history) call yes-row, after-accepted (rowAfter history) call yes-row, e)
     (paid-accepted call history e paid (moves (call .event)) refl (eqb (rowAfter history .front) 0) refl))

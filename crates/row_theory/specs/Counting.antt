@@ -3,10 +3,11 @@ use Prim.Native.Nat.{ℕ, zero, suc, _+_, _-_, _<_, _≤_, zero-le}
 use native.Mathlib.Nat.{zero-add, not-suc-le-zero, le-of-suc-le-suc}
 use native.Mathlib.Omega.{arith}
 use mathlib.Core.Path.{_≡_, refl, sym, _∙_}
-use mathlib.Core.Bool.{Bool, true, false, cond, _&&_, true≢false}
+use mathlib.Core.Bool.{Bool, true, false, cond, _&&_}
 use mathlib.Core.List.{List, [], _∷_}
 use lib.Dec.{eqb}
 use lib.ListN.{length, getD, set}
+use Rattle.rules.specs.Cases.{by-cases}
 use Rattle.row_theory.specs.Slots.{count}
 use borrow.Author.Tests.{eq-eqb, ne-eqb, eqb-true}
 
@@ -14,11 +15,6 @@ use borrow.Author.Tests.{eq-eqb, ne-eqb, eqb-true}
 unfoldable pub without : ℕ → List ℕ → List ℕ
 without x [] = []
 without x (y ∷ list) = cond (eqb y x) list (y ∷ without x list)
-
--- a proof for each outcome of a test
-pub by-test : {P : Type 0} (b : Bool) → (b ≡ true → P) → (b ≡ false → P) → P
-by-test true yes-case no-case = yes-case refl
-by-test false yes-case no-case = no-case refl
 
 pub and-left : (a b : Bool) → (a && b) ≡ true → a ≡ true
 and-left true b e = refl
@@ -28,9 +24,6 @@ pub and-right : (a b : Bool) → (a && b) ≡ true → b ≡ true
 and-right true b e = e
 and-right false true e = refl
 and-right false false e = e
-
-pub not-true-and-false : {P : Type 0} (b : Bool) → b ≡ true → b ≡ false → P
-not-true-and-false b yes-case no-case = absurd (true≢false (sym yes-case ∙ no-case))
 
 pub count-same : (x y : ℕ) (list : List ℕ) → y ≡ x → count x (y ∷ list) ≡ suc (count x list)
 unfolding count
@@ -53,7 +46,7 @@ pub count-without : (x : ℕ) (list : List ℕ) → count x (without x list) ≡
 unfolding count without
 count-without x [] = refl
 count-without x (y ∷ list) =
-    by-test (eqb y x) (λ e. rw e (omega arith))
+    by-cases (eqb y x) (λ e. rw e (omega arith))
     (λ e. rw (e, e) (omega (arith, count-without x list)))
 
 -- and every other number as often as before
@@ -61,7 +54,7 @@ pub count-without-other : (x z : ℕ) (list : List ℕ) → (x ≡ z → ⊥) �
 unfolding count without
 count-without-other x z [] ne = refl
 count-without-other x z (y ∷ list) ne =
-    by-test (eqb y x)
+    by-cases (eqb y x)
     (λ e. rw e (sym (count-other z y list (λ yz. ne (sym (eqb-true y x e) ∙ yz)))))
     (λ e. rw e (omega (arith, count-without-other x z list ne)))
 
@@ -70,7 +63,7 @@ pub length-without : (x : ℕ) (list : List ℕ) → 0 < count x list → length
 unfolding count without
 length-without x [] some = absurd (not-suc-le-zero some)
 length-without x (y ∷ list) some =
-    by-test (eqb y x) (λ e. rw e (omega arith))
+    by-cases (eqb y x) (λ e. rw e (omega arith))
     (λ e. let more : 0 < count x list = rw (e, zero-add) at some in rw e (omega (arith, length-without x list more)))
 
 -- taking a number out adds none
@@ -78,7 +71,7 @@ pub count-without-le : (x z : ℕ) (list : List ℕ) → count z (without x list
 unfolding count without
 count-without-le x z [] = zero-le
 count-without-le x z (y ∷ list) =
-    by-test (eqb y x) (λ e. rw e (omega arith)) (λ e. rw e (omega (arith, count-without-le x z list)))
+    by-cases (eqb y x) (λ e. rw e (omega arith)) (λ e. rw e (omega (arith, count-without-le x z list)))
 
 -- storing a number changes the counts of the old and the new one
 pub count-set : (x : ℕ) (list : List ℕ) (k v d : ℕ) → k < length list → count x (set list k v) + cond (eqb (getD list k d) x) 1 0 ≡ count x list + cond (eqb v x) 1 0

@@ -11,7 +11,7 @@ use borrow.Author.Tests.{eqb-true, eqb-false}
 use Rattle.rules.specs.Limits.{frames, held}
 use Rattle.row_theory.specs.States.{Call, absent, busy, entry, stateOf, heldBit, heldIn, isPut, accepts, statesThen, freshStates}
 use Rattle.row_theory.specs.History.{statesAfter}
-use Rattle.row_theory.specs.Counting.{by-test}
+use Rattle.rules.specs.Cases.{by-cases}
 use Rattle.row_theory.specs.StateLaws.{Effect, effect, accepted, heldIn-set, bitBefore, bitLater}
 use Rattle.row_theory.specs.declared.Event.{Event}
 use Rattle.row_theory.specs.declared.Event.the-variants.{Put, Touch, Start, End, Drop}
@@ -62,13 +62,13 @@ few-then states Drop n few room e = omega arith
 
 state-then : (states : List ℕ) (i next f : ℕ) → i < length states → (next ≤ busy) → ((frame : ℕ) → stateOf states frame ≤ busy) → stateOf (set states i next) f ≤ busy
 state-then states i next f inside small known =
-    by-test (eqb f i)
+    by-cases (eqb f i)
     (λ e. rw (eqb-true f i e, getD-set-same states i next absent inside) small)
     (λ e. rw (getD-set-other states i f next absent (eqb-false f i e)) (known f))
 
 pub good-then : (states : List ℕ) (call : Call) → GoodStates states → GoodStates (statesThen states call)
 good-then states call good =
-    by-test (accepts states call)
+    by-cases (accepts states call)
     (λ e. let ok = accepted states call e in
     record {
       long = rw (states-accepted states call e) (simp length-set (good .long));

@@ -22,6 +22,7 @@ pub mod Moments
 pub mod SoundRow
 pub mod Bound
 pub mod Oldest
+pub mod VictimLaws
 -- What the code's own steps ask and leave, and the laws that its proofs cite.
 pub mod Verdict
 pub mod VerdictLaws

@@ -9,7 +9,7 @@ use lib.ListN.{length}
 use borrow.Author.Tests.{eq-eqb, ne-eqb}
 use Rattle.row_theory.specs.States.{Call, accepts}
 use Rattle.row_theory.specs.History.{statesAfter, movesLast, momentAfter}
-use Rattle.row_theory.specs.Counting.{by-test}
+use Rattle.rules.specs.Cases.{by-cases}
 use Rattle.row_theory.specs.RecentLaws.{Later}
 
 -- no moment is later than now
@@ -17,7 +17,7 @@ pub moment-bound : (history : List Call) (frame : ℕ) → momentAfter history f
 unfolding momentAfter
 moment-bound [] frame = zero-le
 moment-bound (call ∷ history) frame =
-    by-test (movesLast call history && eqb (call .frame) frame) (λ e. rw e (omega arith))
+    by-cases (movesLast call history && eqb (call .frame) frame) (λ e. rw e (omega arith))
     (λ e. rw e (omega (arith, moment-bound history frame)))
 
 -- an accepted put or touch happens now; all else leaves every moment

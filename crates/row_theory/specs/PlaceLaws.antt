@@ -10,7 +10,8 @@ use lib.Seq.{getD-set-same, getD-set-other, ext-getD}
 use borrow.Author.Tests.{eq-eqb, ne-eqb, eqb-true, eqb-false}
 use Rattle.rules.specs.Limits.{frames}
 use Rattle.row_theory.specs.Slots.{empty, emptied, slotOf, placesFrom, placesIn, count}
-use Rattle.row_theory.specs.Counting.{by-test, count-set}
+use Rattle.rules.specs.Cases.{by-cases}
+use Rattle.row_theory.specs.Counting.{count-set}
 
 places-length : (n k : ℕ) (row : List ℕ) → length (placesFrom n k row) ≡ k
 unfolding placesFrom
@@ -36,28 +37,28 @@ pub slotOf-inside : (x : ℕ) (row : List ℕ) → 0 < count x row → slotOf x 
 unfolding slotOf count
 slotOf-inside x [] some = some
 slotOf-inside x (y ∷ row) some =
-    by-test (eqb y x) (λ e. rw e (suc-le-suc zero-le))
+    by-cases (eqb y x) (λ e. rw e (suc-le-suc zero-le))
     (λ e. let more : 0 < count x row = rw (e, zero-add) at some in rw e (suc-le-suc (slotOf-inside x row more)))
 
 pub slotOf-there : (x : ℕ) (row : List ℕ) (d : ℕ) → 0 < count x row → getD row (slotOf x row) d ≡ x
 unfolding slotOf count
 slotOf-there x [] d some = absurd (not-suc-le-zero some)
 slotOf-there x (y ∷ row) d some =
-    by-test (eqb y x) (λ e. rw e (eqb-true y x e))
+    by-cases (eqb y x) (λ e. rw e (eqb-true y x e))
     (λ e. let more : 0 < count x row = rw (e, zero-add) at some in rw e (slotOf-there x row d more))
 
 slotOf-none : (x : ℕ) (row : List ℕ) → count x row ≡ 0 → slotOf x row ≡ length row
 unfolding slotOf count
 slotOf-none x [] none = refl
 slotOf-none x (y ∷ row) none =
-    by-test (eqb y x) (λ e. absurd (omega (arith, rw e at none)))
+    by-cases (eqb y x) (λ e. absurd (omega (arith, rw e at none)))
     (λ e. let rest : count x row ≡ 0 = rw (e, zero-add) at none in rw e (ap suc (slotOf-none x row rest)))
 
 -- W4: emptying a frame's slot is a store at its place
 pub emptied-place : (x : ℕ) (row : List ℕ) → emptied x row ≡ set row (slotOf x row) empty
 unfolding emptied slotOf
 emptied-place x [] = refl
-emptied-place x (y ∷ row) = by-test (eqb y x) (λ e. rw e) (λ e. rw e (ap (λ (l : List ℕ). y ∷ l) (emptied-place x row)))
+emptied-place x (y ∷ row) = by-cases (eqb y x) (λ e. rw e) (λ e. rw e (ap (λ (l : List ℕ). y ∷ l) (emptied-place x row)))
 
 -- a store leaves the place of every number but the old and the new one
 slotOf-other : (x : ℕ) (row : List ℕ) (k v d : ℕ) → k < length row → (getD row k d ≡ x → ⊥) → (v ≡ x → ⊥) → slotOf x (set row k v) ≡ slotOf x row
@@ -65,14 +66,14 @@ unfolding slotOf
 slotOf-other x [] k v d inside old new = absurd (not-suc-le-zero inside)
 slotOf-other x (y ∷ row) zero v d inside old new = rw (ne-eqb v x new, ne-eqb y x old)
 slotOf-other x (y ∷ row) (suc k) v d inside old new =
-    by-test (eqb y x) (λ e. rw e) (λ e. rw e (ap suc (slotOf-other x row k v d (le-of-suc-le-suc inside) old new)))
+    by-cases (eqb y x) (λ e. rw e) (λ e. rw e (ap suc (slotOf-other x row k v d (le-of-suc-le-suc inside) old new)))
 
 slotOf-new : (x : ℕ) (row : List ℕ) (k : ℕ) → k < length row → count x row ≡ 0 → slotOf x (set row k x) ≡ k
 unfolding slotOf count
 slotOf-new x [] k inside none = absurd (not-suc-le-zero inside)
 slotOf-new x (y ∷ row) zero inside none = rw (eq-eqb x x refl)
 slotOf-new x (y ∷ row) (suc k) inside none =
-    by-test (eqb y x) (λ e. absurd (omega (arith, rw e at none)))
+    by-cases (eqb y x) (λ e. absurd (omega (arith, rw e at none)))
     (λ e. let rest : count x row ≡ 0 = rw (e, zero-add) at none in rw e (ap suc (slotOf-new x row k (le-of-suc-le-suc inside) rest)))
 
 -- places that agree with a table at its frame and with the old places at every other
@@ -81,7 +82,7 @@ places-set : (before later : List ℕ) (x p : ℕ) → x < frames → slotOf x l
 places-set before later x p small here others =
     ext-getD 0 (placesIn later) (set (placesIn before) x p) (simp (placesIn-length, length-set))
     (λ i inside. let low : i < frames = omega (arith, placesIn-length later) in
-    by-test (eqb i x)
+    by-cases (eqb i x)
     (λ e. rw (placesIn-at later i low, eqb-true i x e, getD-set-same (placesIn before) x p 0 (omega (arith, placesIn-length before))) here)
     (λ e. let ne : i ≡ x → ⊥ = eqb-false i x e in
     rw (placesIn-at later i low, getD-set-other (placesIn before) x i p 0 ne, placesIn-at before i low) (others i low ne)))

@@ -6,24 +6,25 @@ use lib.ListN.{List·getD-eq-default}
 use borrow.Author.Tests.{ltb-false, eqb-true}
 use Rattle.rules.specs.Limits.{frames}
 use mathlib.Core.Path.{_≡_, sym, _∙_, ap, subst, subst₂}
+use mathlib.Core.Bool.{Bool}
 use mathlib.Core.List.{List, [], _∷_}
 use Rattle.row_theory.specs.States.{Call, refusalOf, accepts, absent, stateOf}
 use Rattle.row_theory.specs.Slots.{placesIn}
-use Rattle.row_theory.specs.Row.{Row, fresh, after, replyOf, numberOf, victimAmong, victimOf}
+use Rattle.row_theory.specs.Row.{Row, fresh, after, replyOf, numberOf, victimAmong}
 use Rattle.row_theory.specs.History.{statesAfter, momentAfter}
 use Rattle.row_theory.specs.Runs.{rowAfter, Reached}
-use Rattle.row_theory.specs.Promise.{Memory, rowIn, Stands, Answered, Started, Kept, Among, Oldest-idle, stateIn}
-use Rattle.row_theory.specs.Counting.{by-test}
+use Rattle.row_theory.specs.Promise.{Memory, rowIn, Stands, Answered, Started, Oldest-idle, stateIn}
+use Rattle.rules.specs.Cases.{by-cases}
 use Rattle.row_theory.specs.GoodStates.{GoodStates, good-after}
 use Rattle.row_theory.specs.SoundRow.{Sound, sound-after}
-use Rattle.row_theory.specs.Theorems.{victim-says, idle-victim-says}
+use Rattle.row_theory.specs.Theorems.{victim-says}
 use Rattle.row_theory.specs.declared.Reply.{Reply}
 use Rattle.row_theory.specs.declared.Victim.{Victim}
 
 number-of-reply : (row : Row) (call : Call) → numberOf (replyOf row call) ≡ refusalOf (row .states) call
 unfolding replyOf
 number-of-reply row call =
-    by-test (accepts (row .states) call)
+    by-cases (accepts (row .states) call)
     (λ e. rw e (sym (eqb-true (refusalOf (row .states) call) 0 (unfold accepts in e))))
     (λ e. rw e)
 
@@ -62,25 +63,12 @@ started whole index = record { whole = whole; stands = record { reached = record
 pub started-once : {m₁ m₂ : Memory} → Started m₁ → Started m₂ → m₁ ≡ m₂
 started-once one two = same-memory (one .whole ∙ sym (two .whole)) (one .stands) (two .stands)
 
-pub among : {slots marks : List ℕ} {held : ℕ} {victim : Victim} → victim ≡ victimAmong marks slots held → Among slots marks held victim
-among {slots} {marks} {held} {victim} answer =
-    record {
-      answer = answer;
-      says = λ history sameSlots sameHeld.
-          rw (answer, ← sameSlots, ← sameHeld) (victim-says history marks);
-    }
+pub oldest-idle : {row : Row} {may : ℕ → Bool} {victim : Victim} → victim ≡ victimAmong may row → Oldest-idle row may victim
+oldest-idle {row} {may} {victim} answer =
+    record { answer = answer; says = λ history gives. rw (answer, ← gives) (victim-says history may) }
 
-pub among-once : {slots marks : List ℕ} {held : ℕ} {victim₁ victim₂ : Victim} → Among slots marks held victim₁ → Among slots marks held victim₂ → victim₁ ≡ victim₂
-among-once one two = one .answer ∙ sym (two .answer)
-
-pub oldest-idle : {row : Row} {victim : Victim} → victim ≡ victimOf row → Oldest-idle row victim
-oldest-idle {row} {victim} answer =
-    record {
-      answer = answer;
-      says = λ history gives. rw (answer, ← gives) (idle-victim-says history);
-    }
-
-pub oldest-idle-once : {row : Row} {victim₁ victim₂ : Victim} → Oldest-idle row victim₁ → Oldest-idle row victim₂ → victim₁ ≡ victim₂
+pub oldest-idle-once : {row : Row} {may : ℕ → Bool} {victim₁ victim₂ : Victim} → Oldest-idle row may victim₁ →
+    Oldest-idle row may victim₂ → victim₁ ≡ victim₂
 oldest-idle-once one two = one .answer ∙ sym (two .answer)
 
 -- a row that calls give, in the words of its own parts
@@ -99,13 +87,10 @@ ordered {row} reached =
       sound = subst₂ (λ (r : Row) (l : List ℕ). Sound r l (momentAfter history)) (reached .gives) same (sound-after history);
     }
 
--- what a layer above asks of a row that stands: its slots for a victim among marks, and the state of any one frame
-pub stands-kept : {m : Memory} → Stands m → Kept (m .slots) (m .front) (m .held)
-stands-kept {m} stands = record { states = m .states; reached = stands .reached }
-
+-- the state of any one frame is the one that the history says
 pub state-says : (history : List Call) (m : Memory) → rowAfter history ≡ rowIn m → (frame : ℕ) → stateIn (m .states) frame ≡ stateOf (statesAfter history) frame
 state-says history m gives frame =
     let same : m .states ≡ statesAfter history = sym (ap (λ (r : Row). r .states) gives) ∙ sound-after history .sameStates in
     ap (λ (l : List ℕ). stateIn l frame) same ∙
-    by-test (ltb frame frames) (λ e. rw e)
+    by-cases (ltb frame frames) (λ e. rw e)
     (λ e. rw e (sym (List·getD-eq-default (statesAfter history) absent {n = frame} (omega (arith, ltb-false frame frames e, good-after history .long)))))

@@ -10,7 +10,8 @@ use borrow.Author.Tests.{eqb-true, eqb-false}
 use Rattle.row_theory.specs.Slots.{count}
 use Rattle.row_theory.specs.States.{moves}
 use Rattle.row_theory.specs.StateLaws.{bitBefore, bitLater}
-use Rattle.row_theory.specs.Counting.{by-test, without, count-same, count-other, count-without, count-without-other, count-without-le, length-without}
+use Rattle.rules.specs.Cases.{by-cases}
+use Rattle.row_theory.specs.Counting.{without, count-same, count-other, count-without, count-without-other, count-without-le, length-without}
 use Rattle.row_theory.specs.Runs.{Recent}
 use Rattle.row_theory.specs.declared.Event.{Event}
 use Rattle.row_theory.specs.declared.Event.the-variants.{Put, Touch, Start, End, Drop}
@@ -65,7 +66,7 @@ pub recent-without : (m : ℕ → ℕ) (x : ℕ) (list : List ℕ) → Recent m 
 unfolding Recent without
 recent-without m x [] order = tt
 recent-without m x (y ∷ list) order =
-    by-test (eqb y x) (λ e. rw e (order .1))
+    by-cases (eqb y x) (λ e. rw e (order .1))
     (λ e. rw e ((λ z inside. order .0 z (omega (arith, count-without-le x z list))), recent-without m x list (order .1)))
 
 -- what a call changes of the moments: its frame's becomes the latest if it moves, every other stays
@@ -85,7 +86,7 @@ recent-head frame m n list latest others fresh order =
 recent-kept : (frame : ℕ) (m n : ℕ → ℕ) (list : List ℕ) → n frame ≡ m frame → ((x : ℕ) → (frame ≡ x → ⊥) → n x ≡ m x) → Recent m list → Recent n list
 recent-kept frame m n list kept others order =
     recent-same m n list
-    (λ x inside. by-test (eqb frame x)
+    (λ x inside. by-cases (eqb frame x)
     (λ e. let same : frame ≡ x = eqb-true frame x e in rw same at kept)
     (λ e. others x (eqb-false frame x e)))
     order

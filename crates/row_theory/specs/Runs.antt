@@ -3,8 +3,8 @@ use Prim.Native.Nat.{ℕ, _+_, _<_}
 use mathlib.Core.Path.{_≡_}
 use mathlib.Core.List.{List, [], _∷_}
 use Rattle.row_theory.specs.States.{Call, entry, heldBit, heldIn, refusalOf, accepts, statesThen}
-use Rattle.row_theory.specs.Slots.{count, framesIn, emptied, squeezedFront, squeezed, roomySlots, roomyFront, seatedFront, seated, slotsThen, frontThen, examinedThen, marked, older, oldest}
-use Rattle.row_theory.specs.Row.{Row, fresh, moved, after, replyOf, examinedOf, victimAmong, victimOf}
+use Rattle.row_theory.specs.Slots.{count, framesIn, emptied, squeezedFront, squeezed, roomySlots, roomyFront, seatedFront, seated, slotsThen, frontThen, examinedThen, passes, older, oldest}
+use Rattle.row_theory.specs.Row.{Row, fresh, moved, after, replyOf, examinedOf, idleAmong, victimAmong, victimOf}
 use Rattle.row_theory.specs.declared.Reply.{Reply}
 use Rattle.row_theory.specs.declared.Victim.{Victim}
 
@@ -47,5 +47,5 @@ unfolding entry heldBit heldIn refusalOf accepts statesThen framesIn emptied squ
 answersOf calls = answersFrom fresh calls
 
 unfoldable pub victimAfterCalls : List Call → Victim
-unfolding answersOf rowFrom marked older oldest victimAmong victimOf
+unfolding answersOf rowFrom passes older oldest idleAmong victimAmong
 victimAfterCalls calls = victimOf (rowFrom fresh calls)

@@ -9,7 +9,7 @@ use lib.ListN.{length, set, length-set}
 use borrow.Author.Tests.{eqb-false}
 use Rattle.rules.specs.Limits.{frames}
 use Rattle.row_theory.specs.Slots.{framesIn, squeezedFront, squeezed, roomySlots, roomyFront, seatedFront, seated}
-use Rattle.row_theory.specs.Counting.{by-test, not-true-and-false}
+use Rattle.rules.specs.Cases.{by-cases, clash}
 use Rattle.row_theory.specs.SlotLaws.{Clear, framesIn-squeezed, squeezed-length, squeezed-clear, framesIn-set, set-clear}
 
 -- what a frame that takes its slot needs: slots clear below the front, and room once they are squeezed
@@ -38,7 +38,7 @@ stored row front frame h above inside clear = (
 pub seat-law : (row : List ℕ) (front frame : ℕ) → frame < frames → Roomy row front → Seated row front frame
 unfolding seated seatedFront roomySlots roomyFront
 seat-law row front frame h roomy =
-    by-test (eqb front 0)
+    by-cases (eqb front 0)
     (λ e. let above : 0 < squeezedFront row = unfold squeezedFront in omega (arith, roomy .room) in
     let inside : squeezedFront row ≤ length (squeezed row) = rw squeezed-length (unfold squeezedFront in omega arith) in
     let kept = stored (squeezed row) (squeezedFront row) frame h above inside (squeezed-clear row) in
@@ -47,7 +47,7 @@ seat-law row front frame h roomy =
       long = rw e (simp (length-set, squeezed-length));
       clear = rw e (kept .1);
       lower = rw e (omega (arith, squeezed-length row));
-      falls = λ no-squeeze. not-true-and-false (eqb front 0) e no-squeeze;
+      falls = λ no-squeeze. clash e no-squeeze;
       packs = λ squeeze. rw e (omega arith);
     })
     (λ e. let above : 0 < front = omega (arith, eqb-false front 0 e) in
@@ -58,5 +58,5 @@ seat-law row front frame h roomy =
       clear = rw e (kept .1);
       lower = rw e (omega (arith, roomy .inside));
       falls = λ no-squeeze. rw e (omega arith);
-      packs = λ squeeze. not-true-and-false (eqb front 0) squeeze e;
+      packs = λ squeeze. clash squeeze e;
     })

@@ -10,7 +10,8 @@ use lib.Seq.{getD-set-other}
 use borrow.Author.Tests.{ne-eqb, eqb-true, lt-ltb, le-ltb, ltb-true, ltb-false}
 use Rattle.rules.specs.Limits.{frames}
 use Rattle.row_theory.specs.Slots.{empty, framesIn, emptied, squeezedFront, squeezed, count}
-use Rattle.row_theory.specs.Counting.{by-test, without, without-same}
+use Rattle.rules.specs.Cases.{by-cases}
+use Rattle.row_theory.specs.Counting.{without, without-same}
 
 -- W1: all slots below a mark are empty
 abbrev pub Clear : ℕ → List ℕ → Type 0
@@ -27,7 +28,7 @@ framesIn-empty x row h = rw (le-ltb x frames h)
 pub framesIn-length : (row : List ℕ) → length (framesIn row) ≤ length row
 framesIn-length [] = unfold framesIn in zero-le
 framesIn-length (x ∷ row) =
-    by-test (ltb x frames)
+    by-cases (ltb x frames)
     (λ e. rw (framesIn-frame x row (ltb-true x frames e)) (omega (arith, framesIn-length row)))
     (λ e. rw (framesIn-empty x row (ltb-false x frames e)) (omega (arith, framesIn-length row)))
 
@@ -40,7 +41,7 @@ pub count-framesIn : (frame : ℕ) (row : List ℕ) → frame < frames → count
 unfolding count framesIn
 count-framesIn frame [] h = refl
 count-framesIn frame (x ∷ row) h =
-    by-test (ltb x frames)
+    by-cases (ltb x frames)
     (λ e. rw e (omega (arith, count-framesIn frame row h)))
     (λ e. let big : frames ≤ x = ltb-false x frames e in
     let other : x ≡ frame → ⊥ = λ same. omega arith in
@@ -51,7 +52,7 @@ pub count-past : (x : ℕ) (row : List ℕ) → frames ≤ x → count x (frames
 unfolding count framesIn
 count-past x [] h = refl
 count-past x (y ∷ row) h =
-    by-test (ltb y frames)
+    by-cases (ltb y frames)
     (λ e. let small : y < frames = ltb-true y frames e in
     let other : y ≡ x → ⊥ = λ same. omega arith in
     rw (e, ne-eqb y x other) (omega (arith, count-past x row h)))
@@ -62,11 +63,11 @@ pub framesIn-emptied : (frame : ℕ) (row : List ℕ) → frame < frames → fra
 unfolding framesIn emptied without
 framesIn-emptied frame [] h = refl
 framesIn-emptied frame (x ∷ row) h =
-    by-test (eqb x frame)
+    by-cases (eqb x frame)
     (λ e. let same : x ≡ frame = eqb-true x frame e in
     let small : x < frames = omega arith in
     rw e (sym (ap (without frame) (framesIn-frame x row small) ∙ without-same frame x (framesIn row) same)))
-    (λ e. by-test (ltb x frames)
+    (λ e. by-cases (ltb x frames)
     (λ small. rw (e, small, e) (ap (λ l. x ∷ l) (framesIn-emptied frame row h)))
     (λ big. rw (e, big) (framesIn-emptied frame row h)))
 
@@ -74,7 +75,7 @@ pub emptied-length : (frame : ℕ) (row : List ℕ) → length (emptied frame ro
 unfolding emptied
 emptied-length frame [] = refl
 emptied-length frame (x ∷ row) =
-    by-test (eqb x frame) (λ e. rw e) (λ e. rw e (ap suc (emptied-length frame row)))
+    by-cases (eqb x frame) (λ e. rw e) (λ e. rw e (ap suc (emptied-length frame row)))
 
 pub emptied-clear : (frame : ℕ) (row : List ℕ) (mark : ℕ) → frame < frames → Clear mark row → Clear mark (emptied frame row)
 unfolding emptied
@@ -97,7 +98,7 @@ framesIn-replicate (suc n) row = framesIn-empty empty (replicate n empty ++ row)
 framesIn-again : (row : List ℕ) → framesIn (framesIn row) ≡ framesIn row
 framesIn-again [] = unfold framesIn in refl
 framesIn-again (x ∷ row) =
-    by-test (ltb x frames)
+    by-cases (ltb x frames)
     (λ e. rw (framesIn-frame x row (ltb-true x frames e), framesIn-frame x (framesIn row) (ltb-true x frames e)) (ap (λ l. x ∷ l) (framesIn-again row)))
     (λ e. rw (framesIn-empty x row (ltb-false x frames e)) (framesIn-again row))
 

@@ -3,9 +3,9 @@ use Prim.Native.Nat.{ℕ, zero, suc, _+_, _-_}
 use mathlib.Core.Bool.{Bool, cond, _&&_}
 use mathlib.Core.List.{List, [], _∷_, _++_}
 use lib.Dec.{ltb, eqb}
-use lib.ListN.{length, getD, set, replicate}
+use lib.ListN.{length, set, replicate}
 use Rattle.rules.specs.Limits.{frames, slots}
-use Rattle.row_theory.specs.States.{idle, moves}
+use Rattle.row_theory.specs.States.{moves}
 use Rattle.row_theory.specs.declared.Event.{Event}
 use Rattle.row_theory.specs.declared.Event.the-variants.{Put, Touch, Start, End, Drop}
 
@@ -90,15 +90,15 @@ frontThen Drop row front frame = front
 unfoldable pub examinedThen : Event → ℕ → ℕ
 examinedThen event front = cond (moves event && eqb front 0) slots 0
 
--- is this a frame, and does it bear the mark that lets it be given up?
-unfoldable pub marked : List ℕ → ℕ → Bool
-marked marks x = ltb x frames && eqb (getD marks x 0) idle
+-- is this a frame, and one that passes the test?
+unfoldable pub passes : (ℕ → Bool) → ℕ → Bool
+passes may x = ltb x frames && may x
 
 -- of two slots' frames the one nearer the old end, if it is a frame
 unfoldable pub older : ℕ → ℕ → ℕ
 older old young = cond (ltb old frames) old young
 
--- W7: the marked frame nearest the old end, or `empty` if there is none
-unfoldable pub oldest : List ℕ → List ℕ → ℕ
-oldest marks [] = empty
-oldest marks (x ∷ row) = older (oldest marks row) (cond (marked marks x) x empty)
+-- W7: the frame nearest the old end that passes the test, or `empty` if there is none
+unfoldable pub oldest : (ℕ → Bool) → List ℕ → ℕ
+oldest may [] = empty
+oldest may (x ∷ row) = older (oldest may row) (cond (passes may x) x empty)

@@ -15,7 +15,7 @@ use Rattle.row_theory.specs.Slots.{empty, framesIn, count}
 use Rattle.row_theory.specs.Row.{Row, fresh, moved, after}
 use Rattle.row_theory.specs.History.{statesAfter, momentAfter}
 use Rattle.row_theory.specs.Runs.{rowAfter, Recent}
-use Rattle.row_theory.specs.Counting.{by-test}
+use Rattle.rules.specs.Cases.{by-cases}
 use Rattle.row_theory.specs.StateLaws.{accepted, bitBefore}
 use Rattle.row_theory.specs.SlotLaws.{Clear}
 use Rattle.row_theory.specs.RecentLaws.{recentThen, count-then, count-then-other, length-then, Later, recent-then, recent-same}
@@ -55,7 +55,7 @@ once-then states call list good e once frame =
     let fx = call-effect states call good e in
     let inside : call .frame < length states = omega (arith, accepted states call e .small, good .long) in
     rw (states-accepted states call e)
-    (by-test (eqb (call .frame) frame)
+    (by-cases (eqb (call .frame) frame)
     (λ same. rw (← eqb-true (call .frame) frame same, getD-set-same states (call .frame) (entry (stateOf states (call .frame)) (call .event)) absent inside)
     (count-then (call .event) (call .frame) list (once (call .frame) ∙ fx .was) ∙ sym (fx .becomes)))
     (λ other. let ne : call .frame ≡ frame → ⊥ = eqb-false (call .frame) frame other in
@@ -133,7 +133,7 @@ unfolding rowAfter statesAfter
 sound-after [] = sound-fresh
 sound-after (call ∷ history) =
     let sound = sound-after history in
-    by-test (accepts (statesAfter history) call)
+    by-cases (accepts (statesAfter history) call)
     (λ e. rw (after-accepted (rowAfter history) call (rw (sound .sameStates) e))
     (sound-accepted (momentAfter (call ∷ history)) call sound (good-after history) e (later-accepted call history e)))
     (λ e. rw (after-refused (rowAfter history) call (rw (sound .sameStates) e), states-refused (statesAfter history) call e)

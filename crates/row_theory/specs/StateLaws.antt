@@ -11,7 +11,7 @@ use borrow.Author.Tests.{eqb-true, leb-false, ltb-false, ltb-true}
 use Rattle.rules.specs.Limits.{frames, held}
 use Rattle.rules.specs.Refusals.{badFrame, rowFull}
 use Rattle.row_theory.specs.States.{Call, absent, idle, busy, entry, stateOf, heldBit, heldIn, ruleOf, isPut, refusalOf, accepts}
-use Rattle.row_theory.specs.Counting.{by-test}
+use Rattle.rules.specs.Cases.{by-cases}
 use Rattle.row_theory.specs.declared.Event.{Event}
 use Rattle.row_theory.specs.declared.Event.the-variants.{Put, Touch, Start, End, Drop}
 
@@ -102,7 +102,7 @@ accepted states call e =
 
 pub heldBit-small : (state : ℕ) → heldBit state ≤ 1
 unfolding heldBit
-heldBit-small state = by-test (eqb state absent) (λ e. rw e (omega arith)) (λ e. rw e (omega arith))
+heldBit-small state = by-cases (eqb state absent) (λ e. rw e (omega arith)) (λ e. rw e (omega arith))
 
 -- storing a state changes the number held by the two held bits
 pub heldIn-set : (states : List ℕ) (i next : ℕ) → i < length states → heldIn (set states i next) + heldBit (getD states i 0) ≡ heldIn states + heldBit next

@@ -2,27 +2,28 @@
 use Prim.Native.Nat.{ℕ, _*_, _-_, _<_, _≤_}
 use native.Mathlib.Omega.{arith}
 use mathlib.Core.Path.{_≡_, refl, sym, _∙_, ap}
-use mathlib.Core.Bool.{true, cond}
+use mathlib.Core.Bool.{Bool, true, cond}
 use mathlib.Core.List.{List, [], _∷_, reverseAux}
 use lib.Dec.{ltb, eqb}
-use lib.ListN.{length, getD}
+use lib.ListN.{length}
 use lib.Seq.{getD-set-same, getD-set-other}
-use borrow.Author.Tests.{eqb-true, eqb-false, lt-ltb, ltb-true, ltb-false, eq-eqb}
+use borrow.Author.Tests.{eqb-true, eqb-false, ltb-true, ltb-false, eq-eqb}
 use Rattle.rules.specs.Limits.{frames, slots, held}
 use Rattle.rules.specs.Refusals.{nothingHeld, allBusy}
-use Rattle.row_theory.specs.States.{Call, absent, idle, busy, entry, stateOf, heldBit, heldIn, accepts, statesThen, moves}
-use Rattle.row_theory.specs.Slots.{framesIn, squeezedFront, seating, marked, oldest, count}
-use Rattle.row_theory.specs.Row.{victimAmong, victimOf}
-use Rattle.row_theory.specs.History.{statesAfter, movesLast, momentAfter, movesAfter, HeldAfter, Victim-is, Victim-says}
+use Rattle.row_theory.specs.States.{Call, absent, busy, entry, stateOf, heldBit, heldIn, accepts, statesThen, moves}
+use Rattle.row_theory.specs.Slots.{framesIn, squeezedFront, seating, count}
+use Rattle.row_theory.specs.Row.{anyFrame, victimAmong, victimOf}
+use Rattle.row_theory.specs.History.{statesAfter, movesLast, momentAfter, movesAfter, Victim-is, Victim-says}
 use Rattle.row_theory.specs.Runs.{rowAfter, examinedAfter, Recent, rowFrom}
-use Rattle.row_theory.specs.Counting.{by-test, and-left, and-right}
-use Rattle.row_theory.specs.StateLaws.{accepted, busy-stays, heldBit-small}
-use Rattle.row_theory.specs.SlotLaws.{Clear, count-framesIn, count-past}
+use Rattle.rules.specs.Cases.{by-cases}
+use Rattle.row_theory.specs.Counting.{and-left, and-right}
+use Rattle.row_theory.specs.StateLaws.{accepted, busy-stays}
+use Rattle.row_theory.specs.SlotLaws.{Clear, count-framesIn}
 use Rattle.row_theory.specs.StepLaws.{slot-step}
 use Rattle.row_theory.specs.GoodStates.{good-after, states-accepted, states-refused}
 use Rattle.row_theory.specs.SoundRow.{sound-after, ready}
 use Rattle.row_theory.specs.Bound.{paid-after, room-left}
-use Rattle.row_theory.specs.Oldest.{Chosen, oldest-framesIn, oldest-none, oldest-chosen, marked-mark}
+use Rattle.row_theory.specs.VictimLaws.{oldestNow, oldest-victim, oldest-no-victim}
 use Rattle.row_theory.specs.declared.Victim.the-variants.{Given}
 
 -- W1: the slots hold exactly the held frames, each once
@@ -56,65 +57,38 @@ squeeze-room call history e zero-front =
 pub examined-bound : (history : List Call) → examinedAfter history ≤ 2 * movesAfter history
 examined-bound history = paid-after history .bound
 
--- a held frame stands in the slots
-held-there : (history : List Call) (frame : ℕ) → HeldAfter history frame → 0 < count frame (framesIn (rowAfter history .slots))
-held-there history frame h = omega (arith, sound-after history .once frame)
-
--- a number that stands among the frames is a frame's
-held-small : (history : List Call) (frame : ℕ) → HeldAfter history frame → frame < frames
-held-small history frame h =
-    by-test (ltb frame frames) (ltb-true frame frames)
-    (λ e. absurd (omega (arith, held-there history frame h, count-past frame (rowAfter history .slots) (ltb-false frame frames e))))
-
-bears-mark : (history : List Call) (marks : List ℕ) (frame : ℕ) → HeldAfter history frame → getD marks frame 0 ≡ idle → marked marks frame ≡ true
-unfolding marked
-bears-mark history marks frame h m = rw (lt-ltb frame frames (held-small history frame h), m)
-
-victim-is : (history : List Call) (marks : List ℕ) → oldest marks (rowAfter history .slots) < frames → Victim-is history marks (oldest marks (rowAfter history .slots))
-victim-is history marks h =
-    let list = framesIn (rowAfter history .slots) in
-    let same : oldest marks list ≡ oldest marks (rowAfter history .slots) = oldest-framesIn marks (rowAfter history .slots) in
-    let chosen : Chosen marks list (momentAfter history) (oldest marks (rowAfter history .slots)) =
-    rw (← same) (oldest-chosen marks (momentAfter history) list (slots-order history) (rw same h)) in
-    record {
-      isHeld = omega (arith, chosen .there, sound-after history .once (oldest marks (rowAfter history .slots)), heldBit-small (stateOf (statesAfter history) (oldest marks (rowAfter history .slots))));
-      mark = marked-mark marks (oldest marks (rowAfter history .slots)) (chosen .bears);
-      earliest = λ other apart there m. chosen .earliest other apart (held-there history other there) (bears-mark history marks other there m);
-    }
-
--- W7, R26, R27: what the answer says of the history, whatever frames the marks allow
-pub victim-says : (history : List Call) (marks : List ℕ) → Victim-says history marks (victimAmong marks (rowAfter history .slots) (rowAfter history .held))
+-- W7, R26, R27: what the answer says of the history, whatever frames the caller lets go
+pub victim-says : (history : List Call) (may : ℕ → Bool) → Victim-says history may (victimAmong may (rowAfter history))
 unfolding victimAmong
-victim-says history marks =
-    by-test (ltb (oldest marks (rowAfter history .slots)) frames)
-    (λ e. rw e (victim-is history marks (ltb-true (oldest marks (rowAfter history .slots)) frames e)))
+victim-says history may =
+    let oldest = oldestNow history may in
+    rw (sound-after history .sameStates)
+    (by-cases (ltb oldest frames)
+    (λ e. rw e (oldest-victim history may (ltb-true oldest frames e)))
     (λ e. rw e
     (record {
-      none = λ frame h m.
-          oldest-none marks (framesIn (rowAfter history .slots))
-          (rw (oldest-framesIn marks (rowAfter history .slots)) (ltb-false (oldest marks (rowAfter history .slots)) frames e))
-          frame (held-there history frame h) (bears-mark history marks frame h m);
+      none = oldest-no-victim history may (ltb-false oldest frames e);
       number = ap (λ (n : ℕ). cond (eqb n 0) nothingHeld allBusy) (sound-after history .number);
       place = refl;
-    }))
+    })))
 
 -- D2, W7: the row's own victim is the idle frame whose last accepted put or touch came earliest
-pub idle-victim-says : (history : List Call) → Victim-says history (statesAfter history) (victimOf (rowAfter history))
-unfolding victimOf
-idle-victim-says history = rw (sound-after history .sameStates) (victim-says history (statesAfter history))
+pub idle-victim-says : (history : List Call) → Victim-says history anyFrame (victimOf (rowAfter history))
+idle-victim-says history = victim-says history anyFrame
 
--- D1: a busy frame is never given as victim
-pub busy-no-victim : (history : List Call) (frame : ℕ) → stateOf (statesAfter history) frame ≡ busy → victimOf (rowAfter history) ≡ Given (record { 0 = frame }) → ⊥
-busy-no-victim history frame isBusy given =
-    let says : Victim-is history (statesAfter history) frame = rw given at (idle-victim-says history) in
-    omega (arith, says .mark)
+-- D1: a busy frame is never given as victim, whatever frames the caller lets go
+pub busy-no-victim : (history : List Call) (may : ℕ → Bool) (frame : ℕ) → stateOf (statesAfter history) frame ≡ busy →
+    victimAmong may (rowAfter history) ≡ Given (record { 0 = frame }) → ⊥
+busy-no-victim history may frame isBusy given =
+    let says : Victim-is history may frame = rw given at (victim-says history may) in
+    omega (arith, says .mayGo .0)
 
 -- D1: and never dropped: whatever the call, a busy frame is not absent after it
 pub busy-kept : (call : Call) (history : List Call) (frame : ℕ) → stateOf (statesAfter history) frame ≡ busy → stateOf (statesAfter (call ∷ history)) frame ≡ absent → ⊥
 unfolding statesAfter
 busy-kept call history frame isBusy gone =
-    by-test (accepts (statesAfter history) call)
-    (λ e. by-test (eqb frame (call .frame))
+    by-cases (accepts (statesAfter history) call)
+    (λ e. by-cases (eqb frame (call .frame))
     (λ same. let eq : frame ≡ call .frame = eqb-true frame (call .frame) same in
     let inside : call .frame < length (statesAfter history) = omega (arith, accepted (statesAfter history) call e .small, good-after history .long) in
     let was : stateOf (statesAfter history) (call .frame) ≡ busy = rw (← eq) isBusy in

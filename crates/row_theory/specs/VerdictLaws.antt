@@ -12,7 +12,7 @@ use Rattle.rules.specs.Refusals.{badFrame, rowFull}
 use Rattle.row_theory.specs.States.{Call, busy, entry, stateOf, heldIn, isPut, refusalOf, accepts, statesThen}
 use Rattle.row_theory.specs.Slots.{slotsThen, frontThen, examinedThen}
 use Rattle.row_theory.specs.Row.{Row, moved, after, replyOf}
-use Rattle.row_theory.specs.Promise.{asked}
+use Rattle.row_theory.specs.Promise.{rowWith, asked}
 use Rattle.row_theory.specs.GoodStates.{states-accepted, held-then}
 use Rattle.row_theory.specs.SoundRow.{ready, after-accepted, after-refused}
 use Rattle.row_theory.specs.StepLaws.{Ready}
@@ -78,9 +78,6 @@ heldThen-law Touch n m e = omega arith
 heldThen-law Start n m e = omega arith
 heldThen-law End n m e = omega arith
 heldThen-law Drop n m e = omega arith
-
-abbrev pub rowWith : List ℕ → List ℕ → ℕ → ℕ → Row
-rowWith slots states front held = record { slots = slots; states = states; front = front; held = held }
 
 moved-is : (row : Row) (event : Event) (frame next : ℕ) → statesThen (row .states) (asked event frame) ≡ set (row .states) frame next → heldIn (statesThen (row .states) (asked event frame)) ≡ heldThen event (row .held) →
     moved row (asked event frame) ≡ rowWith (slotsThen event (row .slots) (row .front) frame) (set (row .states) frame next) (frontThen event (row .slots) (row .front) frame) (heldThen event (row .held))
