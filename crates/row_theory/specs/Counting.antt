@@ -66,6 +66,12 @@ length-without x (y ∷ list) some =
     by-cases (eqb y x) (λ e. rw e (omega arith))
     (λ e. let more : 0 < count x list = rw (e, zero-add) at some in rw e (omega (arith, length-without x list more)))
 
+pub length-without-le : (x : ℕ) (list : List ℕ) → length (without x list) ≤ length list
+unfolding without
+length-without-le x [] = zero-le
+length-without-le x (y ∷ list) =
+    by-cases (eqb y x) (λ e. rw e (omega arith)) (λ e. rw e (omega (arith, length-without-le x list)))
+
 -- taking a number out adds none
 pub count-without-le : (x z : ℕ) (list : List ℕ) → count z (without x list) ≤ count z list
 unfolding count without

@@ -1,12 +1,12 @@
 -- What the steps of a frame call ask of the slots and the places, and what they leave (docs/RULES.md, W2 to W5).
-use Prim.Native.Nat.{ℕ, _<_, _≤_}
+use Prim.Native.Nat.{ℕ, _-_, _<_, _≤_}
 use mathlib.Core.Path.{_≡_}
 use mathlib.Core.List.{List}
-use lib.ListN.{length}
-use Rattle.rules.specs.Limits.{frames}
+use lib.ListN.{length, set}
+use Rattle.rules.specs.Limits.{frames, held}
 use Rattle.rules.specs.Limits
-use Rattle.row_theory.specs.Slots.{count, placesIn, seated, seatedFront, slotsThen, frontThen, examinedThen}
-use Rattle.row_theory.specs.SeatLaws.{Roomy}
+use Rattle.row_theory.specs.Slots.{count, framesIn, placesIn, roomySlots, roomyFront, slotsThen, frontThen, examinedThen}
+use Rattle.row_theory.specs.Holding.{Holding}
 use Rattle.row_theory.specs.StepLaws.{Ready}
 use Rattle.row_theory.specs.declared.Event.{Event}
 use Rattle.row_theory.specs.declared.Event.the-variants.{Put}
@@ -21,14 +21,15 @@ pub record Indexed (slots places : List ℕ) : Type 0 where
 pub record Seatable (slots places : List ℕ) (front frame : ℕ) : Type 0 where
   pub indexed : Indexed slots places
   pub small : frame < frames
-  pub roomy : Roomy slots front
+  pub fits : Holding 0 slots front (framesIn slots)
+  pub few : length (framesIn slots) ≤ held
   pub out : count frame slots ≡ 0
 
 pub record SeatedNow (slots : List ℕ) (front frame examined : ℕ) (slots′ places′ : List ℕ) (front′ : ℕ) : Type 0 where
   pub answer : examined ≡ examinedThen Put front
-  pub row : slots′ ≡ seated slots front frame
+  pub row : slots′ ≡ set (roomySlots slots front) (roomyFront slots front - 1) frame
   pub index : places′ ≡ placesIn slots′
-  pub mark : front′ ≡ seatedFront slots front
+  pub mark : front′ ≡ roomyFront slots front - 1
 
 -- an accepted call can be done
 pub record Shiftable (event : Event) (slots places : List ℕ) (front frame : ℕ) : Type 0 where

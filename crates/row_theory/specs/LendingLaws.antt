@@ -6,7 +6,7 @@ use mathlib.Core.List.{List}
 use lib.ListN.{length, getD, set}
 use borrow.Author.Tests.{eq-eqb, ne-eqb}
 use Rattle.rules.specs.Limits.{frames, slots}
-use Rattle.row_theory.specs.Slots.{empty, emptied, squeezedFront, squeezed, roomySlots, roomyFront, seated, seatedFront, examinedThen, slotOf, placesIn, count}
+use Rattle.row_theory.specs.Slots.{empty, emptied, squeezedFront, squeezed, roomySlots, roomyFront, examinedThen, slotOf, placesIn, count}
 use Rattle.row_theory.specs.SlotLaws.{Clear, framesIn-squeezed, count-framesIn, squeezedFront-rest, squeezed-length, squeezed-clear}
 use Rattle.row_theory.specs.StateLaws.{heldBit-small}
 use Rattle.row_theory.specs.PlaceLaws.{placesIn-at, slotOf-inside, slotOf-there, emptied-place, places-out, places-in}
@@ -39,23 +39,31 @@ taken row front frame small above inside clear out =
     let there : getD row (front - 1) empty ≡ empty = clear (front - 1) (omega arith) in
     sym (places-in row (front - 1) frame empty small (omega arith) (omega arith) out)
 
+-- the squeezed front is a slot's number or past the last
+pub squeezed-inside : {row places : List ℕ} {front frame : ℕ} → Seatable row places front frame →
+    (0 < squeezedFront row) × (squeezedFront row ≤ slots)
+squeezed-inside {row} ask = (
+  omega (arith, squeezedFront-rest row, ask .few, ask .indexed .long),
+  omega (arith, squeezedFront-rest row, ask .indexed .long),
+)
+
 pub seated-plain : {row places : List ℕ} {front frame : ℕ} → Seatable row places front frame → (front ≡ 0 → ⊥) →
     SeatedNow row front frame 0 (set row (front - 1) frame) (set places frame (front - 1)) (front - 1)
-unfolding seated seatedFront roomySlots roomyFront examinedThen
+unfolding roomySlots roomyFront examinedThen
 seated-plain {row} {places} {front} {frame} ask some =
     record {
       answer = rw (ne-eqb front 0 some);
       row = rw (ne-eqb front 0 some);
       index = ap (λ (l : List ℕ). set l frame (front - 1)) (ask .indexed .index) ∙
-          taken row front frame (ask .small) (omega arith) (ask .roomy .inside) (ask .roomy .clear) (ask .out);
+          taken row front frame (ask .small) (omega arith) (omega (arith, ask .fits .inside, ask .fits .long)) (ask .fits .clear) (ask .out);
       mark = rw (ne-eqb front 0 some);
     }
 
 pub seated-squeezed : {row places : List ℕ} {front frame : ℕ} → Seatable row places front frame → front ≡ 0 →
     SeatedNow row front frame slots (set (squeezed row) (squeezedFront row - 1) frame) (set (placesIn (squeezed row)) frame (squeezedFront row - 1)) (squeezedFront row - 1)
-unfolding seated seatedFront roomySlots roomyFront examinedThen
+unfolding roomySlots roomyFront examinedThen
 seated-squeezed {row} {places} {front} {frame} ask none =
-    let above : 0 < squeezedFront row = omega (arith, squeezedFront-rest row, ask .roomy .room) in
+    let above : 0 < squeezedFront row = squeezed-inside ask .0 in
     let out : count frame (squeezed row) ≡ 0 =
     sym (count-framesIn frame (squeezed row) (ask .small)) ∙ ap (count frame) (framesIn-squeezed row) ∙ count-framesIn frame row (ask .small) ∙ ask .out in
     record {
@@ -65,15 +73,11 @@ seated-squeezed {row} {places} {front} {frame} ask none =
       mark = rw (eq-eqb front 0 none);
     }
 
--- the squeezed front is a slot's number or past the last
-pub squeezed-inside : {row places : List ℕ} {front frame : ℕ} → Seatable row places front frame → (0 < squeezedFront row) × (squeezedFront row ≤ slots)
-squeezed-inside {row} ask = (omega (arith, squeezedFront-rest row, ask .roomy .room), omega (arith, squeezedFront-rest row, ask .indexed .long))
-
 -- a row that calls give has no frame twice
 pub indexed : {row : Row} {places : List ℕ} → Ordered row → places ≡ placesIn (row .slots) → Indexed (row .slots) places
 indexed {row} {places} order index =
     record {
-      long = order .sound .long;
+      long = order .sound .fits .long;
       once = λ x small. omega (arith, count-framesIn x (row .slots) small, order .sound .once x, heldBit-small (getD (row .states) x 0));
       index = index;
     }

@@ -14,13 +14,14 @@ pub mod PromiseLaws
 pub mod Counting
 pub mod StateLaws
 pub mod SlotLaws
-pub mod SeatLaws
 pub mod RecentLaws
+pub mod Holding
 pub mod StepLaws
 pub mod GoodStates
 pub mod Moments
 pub mod SoundRow
 pub mod Bound
+pub mod SqueezeLaws
 pub mod Oldest
 pub mod VictimLaws
 -- What the code's own steps ask and leave, and the laws that its proofs cite.

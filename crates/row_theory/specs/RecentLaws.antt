@@ -1,8 +1,9 @@
 -- Laws of the list of frames, most recent first: what an accepted call makes of it, and of the order of moments along it.
-use Prim.Native.Nat.{ℕ, suc, _+_, _<_}
+use Prim.Native.Nat.{ℕ, suc, _+_, _<_, _≤_}
+use native.Mathlib.Nat.{le-refl}
 use native.Mathlib.Omega.{arith}
 use mathlib.Core.Path.{_≡_, refl, _∙_, ap}
-use mathlib.Core.Bool.{true, false}
+use mathlib.Core.Bool.{true, false, cond}
 use mathlib.Core.List.{List, [], _∷_}
 use lib.Dec.{eqb}
 use lib.ListN.{length}
@@ -11,22 +12,26 @@ use Rattle.row_theory.specs.Slots.{count}
 use Rattle.row_theory.specs.States.{moves}
 use Rattle.row_theory.specs.StateLaws.{bitBefore, bitLater}
 use Rattle.rules.specs.Cases.{by-cases}
-use Rattle.row_theory.specs.Counting.{without, count-same, count-other, count-without, count-without-other, count-without-le, length-without}
+use Rattle.row_theory.specs.Counting.{without, count-same, count-other, count-without, count-without-other, count-without-le, length-without, length-without-le}
 use Rattle.row_theory.specs.Runs.{Recent}
 use Rattle.row_theory.specs.declared.Event.{Event}
 use Rattle.row_theory.specs.declared.Event.the-variants.{Put, Touch, Start, End, Drop}
 
+-- W4: the frames without the one that a touch or a drop takes out of its slot
+unfoldable pub fewer : Event → ℕ → List ℕ → List ℕ
+fewer Put frame list = list
+fewer Touch frame list = without frame list
+fewer Start frame list = list
+fewer End frame list = list
+fewer Drop frame list = without frame list
+
 -- what an accepted call makes of the frames, most recent first
 unfoldable pub recentThen : Event → ℕ → List ℕ → List ℕ
-recentThen Put frame list = frame ∷ list
-recentThen Touch frame list = frame ∷ without frame list
-recentThen Start frame list = list
-recentThen End frame list = list
-recentThen Drop frame list = without frame list
+recentThen event frame list = cond (moves event) (frame ∷ fewer event frame list) (fewer event frame list)
 
 -- the frame of an accepted call stands in the list as its state says
 pub count-then : (event : Event) (frame : ℕ) (list : List ℕ) → count frame list ≡ bitBefore event → count frame (recentThen event frame list) ≡ bitLater event
-unfolding recentThen
+unfolding recentThen fewer
 count-then Put frame list h = count-same frame frame list refl ∙ ap suc h
 count-then Touch frame list h = omega (arith, count-same frame frame (without frame list) refl, count-without frame list)
 count-then Start frame list h = h
@@ -35,7 +40,7 @@ count-then Drop frame list h = omega (arith, count-without frame list)
 
 -- every other frame as before
 pub count-then-other : (event : Event) (frame other : ℕ) (list : List ℕ) → (frame ≡ other → ⊥) → count other (recentThen event frame list) ≡ count other list
-unfolding recentThen
+unfolding recentThen fewer
 count-then-other Put frame other list ne = count-other other frame list ne
 count-then-other Touch frame other list ne = count-other other frame (without frame list) ne ∙ count-without-other frame other list ne
 count-then-other Start frame other list ne = refl
@@ -43,12 +48,20 @@ count-then-other End frame other list ne = refl
 count-then-other Drop frame other list ne = count-without-other frame other list ne
 
 pub length-then : (event : Event) (frame : ℕ) (list : List ℕ) → count frame list ≡ bitBefore event → length (recentThen event frame list) + bitBefore event ≡ length list + bitLater event
-unfolding recentThen
+unfolding recentThen fewer
 length-then Put frame list h = omega arith
 length-then Touch frame list h = omega (arith, length-without frame list (omega arith))
 length-then Start frame list h = refl
 length-then End frame list h = refl
 length-then Drop frame list h = omega (arith, length-without frame list (omega arith))
+
+pub length-fewer : (event : Event) (frame : ℕ) (list : List ℕ) → length (fewer event frame list) ≤ length list
+unfolding fewer
+length-fewer Put frame list = le-refl (length list)
+length-fewer Touch frame list = length-without-le frame list
+length-fewer Start frame list = le-refl (length list)
+length-fewer End frame list = le-refl (length list)
+length-fewer Drop frame list = length-without-le frame list
 
 -- moments that agree on the list's frames order it alike
 pub recent-same : (m n : ℕ → ℕ) (list : List ℕ) → ((x : ℕ) → 0 < count x list → n x ≡ m x) → Recent m list → Recent n list
@@ -93,7 +106,7 @@ recent-kept frame m n list kept others order =
 
 -- W1, W7: an accepted call keeps the frames most recent first
 pub recent-then : (event : Event) (frame : ℕ) (m n : ℕ → ℕ) (list : List ℕ) → count frame list ≡ bitBefore event → Later event frame m n → Recent m list → Recent n (recentThen event frame list)
-unfolding recentThen
+unfolding recentThen fewer
 recent-then Put frame m n list h later order = recent-head frame m n list (later .latest refl) (later .others) h order
 recent-then Touch frame m n list h later order =
     recent-head frame m n (without frame list) (later .latest refl) (later .others) (omega (arith, count-without frame list)) (recent-without m frame list order)

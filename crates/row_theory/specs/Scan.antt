@@ -109,7 +109,7 @@ module _ {states marks row : List ℕ} {front held i : ℕ} (reached : Reached (
     (looked : Looked states marks row i) (low : i ≤ front) where
   none-there : frames ≤ oldest (markedIdle states marks) row
   none-there =
-      oldest-clear (markedIdle states marks) row i (λ j below. ordered reached .sound .clear j (omega arith)) (looked .none)
+      oldest-clear (markedIdle states marks) row i (λ j below. ordered reached .sound .fits .clear j (omega arith)) (looked .none)
 
   refused : (number : ℕ) → cond (eqb held 0) nothingHeld allBusy ≡ number →
       Oldest-idle (rowWith row states front held) (hasMark marks) (Refused (record { number = number; place = 0 }))
@@ -126,7 +126,7 @@ module _ {states marks row : List ℕ} {front held i : ℕ} (reached : Reached (
 
 -- a row that calls give has all its slots
 pub reached-long : {row : Row} → Reached row → length (row .slots) ≡ slots
-reached-long reached = ordered reached .sound .long
+reached-long reached = ordered reached .sound .fits .long
 
 -- all idle frames bear the mark where the states are the marks
 idle-marked : (states : List ℕ) (frame : ℕ) → idleAmong (hasMark states) states frame ≡ idleAmong anyFrame states frame

@@ -4,9 +4,10 @@ use native.Mathlib.Omega.{arith}
 use mathlib.Core.Path.{_≡_, refl, sym, _∙_, ap, subst, subst₂}
 use mathlib.Core.List.{List}
 use Rattle.rules.specs.Limits.{frames}
-use Rattle.row_theory.specs.Slots.{framesIn, emptied, slotsThen, frontThen, examinedThen, placesIn, count}
-use Rattle.row_theory.specs.Counting.{without, count-without, count-without-le, length-without}
-use Rattle.row_theory.specs.SlotLaws.{framesIn-length, framesIn-emptied, count-framesIn, emptied-length, emptied-clear}
+use Rattle.row_theory.specs.Slots.{framesIn, emptied, vacated, slotsThen, frontThen, examinedThen, placesIn, count}
+use Rattle.row_theory.specs.Counting.{without, count-without, count-without-le, length-without-le}
+use Rattle.row_theory.specs.SlotLaws.{framesIn-emptied, count-framesIn, emptied-length}
+use Rattle.row_theory.specs.Holding.{emptied-holding, refits}
 use Rattle.row_theory.specs.StateLaws.{bitBefore}
 use Rattle.row_theory.specs.Lending.{Seatable, SeatedNow, Shiftable, Shifted}
 use Rattle.row_theory.specs.declared.Event.{Event}
@@ -21,7 +22,8 @@ put-seatable ask =
     record {
       indexed = ask .indexed;
       small = ask .ready .small;
-      roomy = record { inside = ask .ready .inside; clear = ask .ready .clear; room = ask .ready .room refl };
+      fits = ask .ready .fits;
+      few = ask .ready .few;
       out = there ask;
     }
 
@@ -46,35 +48,30 @@ touch-seatable {row} {places} {front} {frame} ask =
             index = refl;
           };
       small = small;
-      roomy =
-          record {
-            inside = rw emptied-length (ask .ready .inside);
-            clear = emptied-clear frame row front small (ask .ready .clear);
-            room = rw (framesIn-emptied frame row small, emptied-length)
-                (omega (arith, length-without frame (framesIn row) (omega (arith, ask .ready .once)), framesIn-length row));
-          };
+      fits = refits (emptied-holding frame small (ask .ready .fits));
+      few = rw (framesIn-emptied frame row small) (omega (arith, length-without-le frame (framesIn row), ask .ready .few));
       out = gone;
     }
 
 -- what the five events leave
 pub shifted-put : {row : List ℕ} {front frame examined : ℕ} {row′ places′ : List ℕ} {front′ : ℕ} → SeatedNow row front frame examined row′ places′ front′ → Shifted Put row front frame examined row′ places′ front′
-unfolding slotsThen frontThen
+unfolding slotsThen frontThen vacated
 shifted-put seat = record { answer = seat .answer; row = seat .row; index = seat .index; mark = seat .mark }
 
 pub shifted-touch : {row : List ℕ} {front frame examined : ℕ} {row′ places′ : List ℕ} {front′ : ℕ} → SeatedNow (emptied frame row) front frame examined row′ places′ front′ → Shifted Touch row front frame examined row′ places′ front′
-unfolding slotsThen frontThen examinedThen
+unfolding slotsThen frontThen vacated examinedThen
 shifted-touch seat = record { answer = seat .answer; row = seat .row; index = seat .index; mark = seat .mark }
 
 pub shifted-start : {row places : List ℕ} {front frame : ℕ} → Shiftable Start row places front frame → Shifted Start row front frame 0 row places front
-unfolding slotsThen frontThen examinedThen
+unfolding slotsThen frontThen vacated examinedThen
 shifted-start ask = record { answer = refl; row = refl; index = ask .indexed .index; mark = refl }
 
 pub shifted-end : {row places : List ℕ} {front frame : ℕ} → Shiftable End row places front frame → Shifted End row front frame 0 row places front
-unfolding slotsThen frontThen examinedThen
+unfolding slotsThen frontThen vacated examinedThen
 shifted-end ask = record { answer = refl; row = refl; index = ask .indexed .index; mark = refl }
 
 pub shifted-drop : {row : List ℕ} {front frame : ℕ} → Shifted Drop row front frame 0 (emptied frame row) (placesIn (emptied frame row)) front
-unfolding slotsThen frontThen examinedThen
+unfolding slotsThen frontThen vacated examinedThen
 shifted-drop = record { answer = refl; row = refl; index = refl; mark = refl }
 
 -- the same where the event is known by an equation, and the slots by what emptying one left

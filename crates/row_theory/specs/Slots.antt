@@ -49,42 +49,31 @@ squeezedFront row = length row - length (framesIn row)
 unfoldable pub squeezed : List ℕ → List ℕ
 squeezed row = replicate (squeezedFront row) empty ++ framesIn row
 
--- W2: the slots and the front just before a frame takes its slot
+-- W2: the slots and the front just before a frame takes its slot: squeezed if the front is 0
 unfoldable pub roomySlots : List ℕ → ℕ → List ℕ
 roomySlots row front = cond (eqb front 0) (squeezed row) row
 
 unfoldable pub roomyFront : List ℕ → ℕ → ℕ
 roomyFront row front = cond (eqb front 0) (squeezedFront row) front
 
--- W2: the front falls by one, and that slot takes the frame
-unfoldable pub seatedFront : List ℕ → ℕ → ℕ
-seatedFront row front = roomyFront row front - 1
+-- W4: a touch or a drop empties its frame's slot
+unfoldable pub vacated : Event → ℕ → List ℕ → List ℕ
+vacated Put frame row = row
+vacated Touch frame row = emptied frame row
+vacated Start frame row = row
+vacated End frame row = row
+vacated Drop frame row = emptied frame row
 
-unfoldable pub seated : List ℕ → ℕ → ℕ → List ℕ
-seated row front frame = set (roomySlots row front) (seatedFront row front) frame
-
--- W4: the slots as a put or a touch finds them when its frame takes a slot
-unfoldable pub seating : Event → ℕ → List ℕ → List ℕ
-seating Put frame row = row
-seating Touch frame row = emptied frame row
-seating Start frame row = row
-seating End frame row = row
-seating Drop frame row = row
-
--- W2, W4: the slots and the front after an accepted call
+-- W2, W4: the slots and the front after an accepted call: then, for a put or a touch, the front falls by one and that slot takes the frame
 unfoldable pub slotsThen : Event → List ℕ → ℕ → ℕ → List ℕ
-slotsThen Put row front frame = seated row front frame
-slotsThen Touch row front frame = seated (emptied frame row) front frame
-slotsThen Start row front frame = row
-slotsThen End row front frame = row
-slotsThen Drop row front frame = emptied frame row
+slotsThen event row front frame =
+    let left = vacated event frame row in
+    cond (moves event) (set (roomySlots left front) (roomyFront left front - 1) frame) left
 
 unfoldable pub frontThen : Event → List ℕ → ℕ → ℕ → ℕ
-frontThen Put row front frame = seatedFront row front
-frontThen Touch row front frame = seatedFront (emptied frame row) front
-frontThen Start row front frame = front
-frontThen End row front frame = front
-frontThen Drop row front frame = front
+frontThen event row front frame =
+    let left = vacated event frame row in
+    cond (moves event) (roomyFront left front - 1) front
 
 -- W5: the slots examined by an accepted call
 unfoldable pub examinedThen : Event → ℕ → ℕ

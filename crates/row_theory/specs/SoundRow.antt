@@ -1,5 +1,5 @@
 -- The row after any calls from a fresh one (docs/RULES.md, W1 to W4): it agrees with the history in all that the history says.
-use Prim.Native.Nat.{ℕ, zero, suc, _<_, _≤_}
+use Prim.Native.Nat.{ℕ, zero, suc, _<_, _≤_, zero-le}
 use native.Mathlib.Nat.{le-refl}
 use native.Mathlib.Omega.{arith}
 use mathlib.Core.Path.{_≡_, refl, sym, _∙_}
@@ -17,7 +17,7 @@ use Rattle.row_theory.specs.History.{statesAfter, momentAfter}
 use Rattle.row_theory.specs.Runs.{rowAfter, Recent}
 use Rattle.rules.specs.Cases.{by-cases}
 use Rattle.row_theory.specs.StateLaws.{accepted, bitBefore}
-use Rattle.row_theory.specs.SlotLaws.{Clear}
+use Rattle.row_theory.specs.Holding.{Holding, refits}
 use Rattle.row_theory.specs.RecentLaws.{recentThen, count-then, count-then-other, length-then, Later, recent-then, recent-same}
 use Rattle.row_theory.specs.StepLaws.{Ready, slot-step}
 use Rattle.row_theory.specs.GoodStates.{GoodStates, good-after, states-accepted, states-refused, call-effect, held-then}
@@ -27,9 +27,7 @@ use Rattle.row_theory.specs.Moments.{later-accepted, moment-refused}
 pub record Sound (row : Row) (states : List ℕ) (moment : ℕ → ℕ) : Type 0 where
   pub sameStates : row .states ≡ states
   pub number : row .held ≡ heldIn states
-  pub long : length (row .slots) ≡ slots
-  pub inside : row .front ≤ slots
-  pub clear : Clear (row .front) (row .slots)
+  pub fits : Holding 0 (row .slots) (row .front) (framesIn (row .slots))
   pub once : (frame : ℕ) → count frame (framesIn (row .slots)) ≡ heldBit (stateOf states frame)
   pub many : length (framesIn (row .slots)) ≡ heldIn states
   pub order : Recent moment (framesIn (row .slots))
@@ -38,13 +36,11 @@ pub record Sound (row : Row) (states : List ℕ) (moment : ℕ → ℕ) : Type 0
 pub ready : {row : Row} {states : List ℕ} {moment : ℕ → ℕ} (call : Call) → Sound row states moment → GoodStates states → accepts states call ≡ true →
     Ready (call .event) (row .slots) (row .front) (call .frame)
 ready {row} {states} call sound good e =
-    let ok = accepted states call e in
     record {
-      small = ok .small;
-      inside = omega (arith, sound .inside, sound .long);
-      clear = sound .clear;
+      small = accepted states call e .small;
+      fits = sound .fits;
+      few = omega (arith, sound .many, good .few);
       once = sound .once (call .frame) ∙ call-effect states call good e .was;
-      room = λ put. omega (arith, ok .room put, sound .many, sound .long);
     }
 
 -- the held bit of every frame after an accepted call
@@ -71,12 +67,10 @@ sound-accepted {row} {states} {m} n call sound good e later =
     record {
       sameStates = rw (sound .sameStates);
       number = rw (sound .sameStates);
-      long = step .long ∙ sound .long;
-      inside = omega (arith, step .inside, sound .long);
-      clear = step .clear;
-      once = λ frame. rw (step .recent) (once-then states call (framesIn (row .slots)) good e (sound .once) frame);
-      many = rw (step .recent) (omega (arith, length-then (call .event) (call .frame) (framesIn (row .slots)) before, held-then states call good e, sound .many));
-      order = rw (step .recent) (recent-then (call .event) (call .frame) m n (framesIn (row .slots)) before later (sound .order));
+      fits = refits step;
+      once = λ frame. rw (step .holds) (once-then states call (framesIn (row .slots)) good e (sound .once) frame);
+      many = rw (step .holds) (omega (arith, length-then (call .event) (call .frame) (framesIn (row .slots)) before, held-then states call good e, sound .many));
+      order = rw (step .holds) (recent-then (call .event) (call .frame) m n (framesIn (row .slots)) before later (sound .order));
     }
 
 pub sound-refused : {row : Row} {states : List ℕ} {m : ℕ → ℕ} (n : ℕ → ℕ) → ((frame : ℕ) → n frame ≡ m frame) → Sound row states m → Sound row states n
@@ -84,9 +78,7 @@ sound-refused {row} {states} {m} n same sound =
     record {
       sameStates = sound .sameStates;
       number = sound .number;
-      long = sound .long;
-      inside = sound .inside;
-      clear = sound .clear;
+      fits = sound .fits;
       once = sound .once;
       many = sound .many;
       order = recent-same m n (framesIn (row .slots)) (λ x inside. same x) (sound .order);
@@ -119,9 +111,7 @@ sound-fresh =
     record {
       sameStates = refl;
       number = unfold heldIn heldBit in refl;
-      long = refl;
-      inside = le-refl slots;
-      clear = λ i below. clear-fresh slots i;
+      fits = record { long = refl; low = zero-le; inside = le-refl slots; clear = λ i below. clear-fresh slots i; holds = refl };
       once = λ frame. sym (once-fresh frames frame);
       many = unfold heldIn heldBit in refl;
       order = tt;

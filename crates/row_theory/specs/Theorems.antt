@@ -1,5 +1,5 @@
 -- What holds over any calls from a fresh row (docs/RULES.md, D1, D2, L5, W1 to W7), in the rules' own words.
-use Prim.Native.Nat.{ℕ, _*_, _-_, _<_, _≤_}
+use Prim.Native.Nat.{ℕ, _*_, _<_, _≤_}
 use native.Mathlib.Omega.{arith}
 use mathlib.Core.Path.{_≡_, refl, sym, _∙_, ap}
 use mathlib.Core.Bool.{Bool, true, cond}
@@ -7,22 +7,21 @@ use mathlib.Core.List.{List, [], _∷_, reverseAux}
 use lib.Dec.{ltb, eqb}
 use lib.ListN.{length}
 use lib.Seq.{getD-set-same, getD-set-other}
-use borrow.Author.Tests.{eqb-true, eqb-false, ltb-true, ltb-false, eq-eqb}
+use borrow.Author.Tests.{eqb-true, eqb-false, ltb-true, ltb-false}
 use Rattle.rules.specs.Limits.{frames, slots, held}
 use Rattle.rules.specs.Refusals.{nothingHeld, allBusy}
-use Rattle.row_theory.specs.States.{Call, absent, busy, entry, stateOf, heldBit, heldIn, accepts, statesThen, moves}
-use Rattle.row_theory.specs.Slots.{framesIn, squeezedFront, seating, count}
-use Rattle.row_theory.specs.Row.{anyFrame, victimAmong, victimOf}
-use Rattle.row_theory.specs.History.{statesAfter, movesLast, momentAfter, movesAfter, Victim-is, Victim-says}
-use Rattle.row_theory.specs.Runs.{rowAfter, examinedAfter, Recent, rowFrom}
+use Rattle.row_theory.specs.States.{Call, absent, busy, entry, stateOf, heldBit, heldIn, accepts, statesThen}
+use Rattle.row_theory.specs.Slots.{framesIn, count}
+use Rattle.row_theory.specs.Row.{replyOf, examinedOf, anyFrame, victimAmong, victimOf}
+use Rattle.row_theory.specs.History.{statesAfter, momentAfter, movesAfter, Victim-is, Victim-says}
+use Rattle.row_theory.specs.Runs.{rowAfter, examinedAfter, Recent, PackedRow, rowFrom}
 use Rattle.rules.specs.Cases.{by-cases}
-use Rattle.row_theory.specs.Counting.{and-left, and-right}
 use Rattle.row_theory.specs.StateLaws.{accepted, busy-stays}
 use Rattle.row_theory.specs.SlotLaws.{Clear, count-framesIn}
-use Rattle.row_theory.specs.StepLaws.{slot-step}
 use Rattle.row_theory.specs.GoodStates.{good-after, states-accepted, states-refused}
-use Rattle.row_theory.specs.SoundRow.{sound-after, ready}
-use Rattle.row_theory.specs.Bound.{paid-after, room-left}
+use Rattle.row_theory.specs.SoundRow.{sound-after}
+use Rattle.row_theory.specs.Bound.{paid-after}
+use Rattle.row_theory.specs.SqueezeLaws.{packed-after}
 use Rattle.row_theory.specs.VictimLaws.{oldestNow, oldest-victim, oldest-no-victim}
 use Rattle.row_theory.specs.declared.Victim.the-variants.{Given}
 
@@ -36,22 +35,16 @@ slots-order history = sound-after history .order
 
 -- W1: all slots below the front are empty
 pub slots-clear : (history : List Call) → Clear (rowAfter history .front) (rowAfter history .slots)
-slots-clear history = sound-after history .clear
+slots-clear history = sound-after history .fits .clear
 
 -- L5: at most 32 frames are held
 pub held-few : (history : List Call) → heldIn (statesAfter history) ≤ held
 held-few history = good-after history .few
 
--- W2, W3: a put or touch that squeezes finds room: the squeezed front is above 0
-pub squeeze-room : (call : Call) (history : List Call) → movesLast call history ≡ true → rowAfter history .front ≡ 0 →
-    slots - held < squeezedFront (seating (call .event) (call .frame) (rowAfter history .slots))
-unfolding movesLast
-squeeze-room call history e zero-front =
-    let ok = and-left (accepts (statesAfter history) call) (moves (call .event)) e in
-    let moving = and-right (accepts (statesAfter history) call) (moves (call .event)) e in
-    let front = eq-eqb (rowAfter history .front) 0 zero-front in
-    let step = slot-step (call .event) (rowAfter history .slots) (rowAfter history .front) (call .frame) (ready call (sound-after history) (good-after history) ok) in
-    omega (arith, step .packs moving front, room-left call history ok moving front)
+-- W3, W4: after a call that squeezed, front and frames held add up to the number of slots, and the frames are packed against the last slot
+pub squeeze-packs : (call : Call) (history : List Call) → examinedOf (replyOf (rowAfter history) call) ≡ slots →
+    PackedRow (rowAfter (call ∷ history))
+squeeze-packs call history examined = packed-after call history examined
 
 -- W5: with k accepted puts and touches the slots examined sum to at most 2k
 pub examined-bound : (history : List Call) → examinedAfter history ≤ 2 * movesAfter history
