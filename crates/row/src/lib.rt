@@ -27,7 +27,7 @@ use table::verdict;
 ghost use mathlib.Core.Path.{_≡_};
 ghost use Rattle.row_theory.specs.Runs.{Reached};
 ghost use Rattle.row_theory.specs.Row.{anyFrame, hasMark};
-ghost use Rattle.row_theory.specs.Promise.{memory, rowWith, Stands, asked, Answered, Started, Oldest-idle, stateIn};
+ghost use Rattle.row_theory.specs.Promise.{memory, rowWith, Stands, asked, Answered, FreshRow, Oldest-idle, stateIn};
 
 // The mark of a frame that may be given up.
 const GIVABLE: u8 = 1;
@@ -68,7 +68,7 @@ pub fn fresh(
     front: &mut usize,
     held: &mut usize,
 )
-    ensures { λ r. ⌜ Started (memory (now (slots .exit)) (now (places .exit)) (now (states .exit)) (now (front .exit)) (now (held .exit))) ⌝ }
+    ensures { λ r. ⌜ FreshRow (memory (now (slots .exit)) (now (places .exit)) (now (states .exit)) (now (front .exit)) (now (held .exit))) ⌝ }
 {
     *slots = [EMPTY; SLOTS];
     *places = [NOWHERE; FRAMES as usize];

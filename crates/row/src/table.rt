@@ -15,7 +15,7 @@ ghost use Prim.Native.Nat.{ℕ, _<_, _≤_};
 ghost use lib.Dec.{leb};
 ghost use lib.ListN.{getD};
 ghost use Rattle.rules.specs.Limits.{held as heldLimit, slots as slotCount};
-ghost use Rattle.row_theory.specs.States.{busy, entry, isPut};
+ghost use Rattle.row_theory.specs.States.{busy, tableAt, isPut};
 ghost use Rattle.row_theory.specs.StateLaws.{bitLater};
 ghost use Rattle.row_theory.specs.Verdict.{verdictOf, heldThen};
 
@@ -35,7 +35,7 @@ const NEXT: [[u8; 5]; 3] = [
 // The table's entry: a next state or a refusal.
 fn next(state: u8, event: Event) -> u8
     requires { ⌜ state ≤ busy ⌝ }
-    ensures { λ r. ⌜ r ≡ entry state event ⌝ }
+    ensures { λ r. ⌜ r ≡ tableAt state event ⌝ }
 {
     let row = NEXT[state as usize];
     match event {

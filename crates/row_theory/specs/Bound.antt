@@ -12,7 +12,7 @@ use Rattle.rules.specs.Limits.{slots, held}
 use Rattle.rules.specs.Cases.{by-cases}
 use Rattle.row_theory.specs.States.{Call, accepts, moves}
 use Rattle.row_theory.specs.Slots.{frontThen, examinedThen}
-use Rattle.row_theory.specs.Row.{Row, fresh, moved, replyOf, examinedOf}
+use Rattle.row_theory.specs.Row.{Row, emptyRow, moved, replyOf, examinedOf}
 use Rattle.row_theory.specs.History.{statesAfter, movesLast, movesAfter}
 use Rattle.row_theory.specs.Runs.{rowAfter, examinedAfter}
 use Rattle.row_theory.specs.Holding.{spare}
@@ -93,5 +93,5 @@ paid-then call history paid =
 
 -- W5: over any calls from a fresh row with k accepted puts and touches, the slots examined sum to at most 2k
 pub paid-after : (history : List Call) → Paid (examinedAfter history) (movesAfter history) (rowAfter history .front)
-paid-after [] = unfold examinedAfter movesAfter rowAfter fresh in record { bound = zero-le; credit = lit≤ tt }
+paid-after [] = unfold examinedAfter movesAfter rowAfter emptyRow in record { bound = zero-le; credit = lit≤ tt }
 paid-after (call ∷ history) = paid-then call history (paid-after history)

@@ -7,9 +7,9 @@ pub mod Row
 pub mod History
 pub mod Runs
 pub mod Promise
--- What holds over any calls from a fresh row, and that two answers which meet a promise are equal.
+-- What holds over any calls from a fresh row, and of any answer that meets a promise.
 pub mod Theorems
-pub mod PromiseLaws
+pub mod Answers
 -- The laws that these rest on: of lists, states and slots, then of one call, then of all calls.
 pub mod Counting
 pub mod StateLaws
@@ -24,6 +24,7 @@ pub mod Bound
 pub mod SqueezeLaws
 pub mod Oldest
 pub mod VictimLaws
+pub mod PromiseLaws
 -- What the code's own steps ask and leave, and the laws that its proofs cite.
 pub mod Verdict
 pub mod VerdictLaws

@@ -92,12 +92,12 @@ oldest-none may (x ∷ list) h frame inside m =
     (λ other. oldest-none may list none frame (omega (arith, count-other frame x list (eqb-false x frame other))) m))
 
 -- a frame of the list that passes, and whose moment is before every other's
-pub record Chosen (may : ℕ → Bool) (list : List ℕ) (moment : ℕ → ℕ) (frame : ℕ) : Type 0 where
+pub record EarliestPassing (may : ℕ → Bool) (list : List ℕ) (moment : ℕ → ℕ) (frame : ℕ) : Type 0 where
   pub bears : passes may frame ≡ true
   pub there : 0 < count frame list
   pub earliest : (other : ℕ) → (frame ≡ other → ⊥) → 0 < count other list → passes may other ≡ true → moment frame < moment other
 
-chosen-behind : (may : ℕ → Bool) (moment : ℕ → ℕ) (x : ℕ) (list : List ℕ) (frame : ℕ) → Earlier moment (moment x) list → Chosen may list moment frame → Chosen may (x ∷ list) moment frame
+chosen-behind : (may : ℕ → Bool) (moment : ℕ → ℕ) (x : ℕ) (list : List ℕ) (frame : ℕ) → Earlier moment (moment x) list → EarliestPassing may list moment frame → EarliestPassing may (x ∷ list) moment frame
 chosen-behind may moment x list frame earlier chosen =
     record {
       bears = chosen .bears;
@@ -107,7 +107,7 @@ chosen-behind may moment x list frame earlier chosen =
           (λ ne. chosen .earliest other apart (omega (arith, count-other other x list (eqb-false x other ne))) m);
     }
 
-chosen-here : (may : ℕ → Bool) (moment : ℕ → ℕ) (x : ℕ) (list : List ℕ) → frames ≤ oldest may list → passes may x ≡ true → Chosen may (x ∷ list) moment x
+chosen-here : (may : ℕ → Bool) (moment : ℕ → ℕ) (x : ℕ) (list : List ℕ) → frames ≤ oldest may list → passes may x ≡ true → EarliestPassing may (x ∷ list) moment x
 chosen-here may moment x list none m =
     record {
       bears = m;
@@ -118,7 +118,7 @@ chosen-here may moment x list none m =
     }
 
 -- W7: if the answer is a frame, its moment is the earliest of those that pass
-pub oldest-chosen : (may : ℕ → Bool) (moment : ℕ → ℕ) (list : List ℕ) → Recent moment list → oldest may list < frames → Chosen may list moment (oldest may list)
+pub oldest-chosen : (may : ℕ → Bool) (moment : ℕ → ℕ) (list : List ℕ) → Recent moment list → oldest may list < frames → EarliestPassing may list moment (oldest may list)
 oldest-chosen may moment [] order h = absurd (unfold oldest in omega arith)
 oldest-chosen may moment (x ∷ list) order h =
     let parts : Earlier moment (moment x) list × Recent moment list = unfold Recent in order in

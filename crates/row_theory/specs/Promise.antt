@@ -7,7 +7,7 @@ use lib.Dec.{ltb}
 use Rattle.rules.specs.Limits.{frames}
 use Rattle.row_theory.specs.States.{Call, absent, stateOf, refusalOf}
 use Rattle.row_theory.specs.Slots.{placesIn}
-use Rattle.row_theory.specs.Row.{Row, fresh, after, replyOf, numberOf, victimAmong}
+use Rattle.row_theory.specs.Row.{Row, emptyRow, after, replyOf, replyNumber, replyPlace, victimAmong}
 use Rattle.row_theory.specs.History.{statesAfter, Victim-says}
 use Rattle.row_theory.specs.Runs.{rowAfter, Reached}
 use Rattle.row_theory.specs.declared.Event.{Event}
@@ -41,17 +41,24 @@ pub record Stands (m : Memory) : Type 0 where
 abbrev pub asked : Event → ℕ → Call
 asked event frame = record { event = event; frame = frame }
 
--- one of the five calls: the whole answer and the whole row after it, which again is one that calls give; and for any history that gives the
--- row, the number is the one that the history says, and the row after it is that of the longer history
+-- what a reply and the row after it say of a history before the call: the number is the one that the history says (0: accepted), the place is
+-- 0, and the row is that of the longer history
+pub record Reply-says (history : List Call) (call : Call) (reply : Reply) (row′ : Row) : Type 0 where
+  pub number : replyNumber reply ≡ refusalOf (statesAfter history) call
+  pub place : replyPlace reply ≡ 0
+  pub next : row′ ≡ rowAfter (call ∷ history)
+
+-- one of the five calls: the whole answer and the whole row after it, which again is one that calls give; and what that says of any history
+-- that gives the row
 pub record Answered (m : Memory) (call : Call) (reply : Reply) (m′ : Memory) : Type 0 where
   pub answer : reply ≡ replyOf (rowIn m) call
   pub next : rowIn m′ ≡ after (rowIn m) call
   pub stands : Stands m′
-  pub says : (history : List Call) → rowAfter history ≡ rowIn m → (numberOf reply ≡ refusalOf (statesAfter history) call) × (rowIn m′ ≡ rowAfter (call ∷ history))
+  pub says : (history : List Call) → rowAfter history ≡ rowIn m → Reply-says history call reply (rowIn m′)
 
 -- a fresh row
-pub record Started (m : Memory) : Type 0 where
-  pub whole : rowIn m ≡ fresh
+pub record FreshRow (m : Memory) : Type 0 where
+  pub whole : rowIn m ≡ emptyRow
   pub stands : Stands m
 
 -- W7, R26, R27: the oldest idle frame among those that the caller lets go: the whole answer, and what it says of any history that gives

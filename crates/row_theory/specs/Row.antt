@@ -22,8 +22,8 @@ pub record Row : Type 0 where
   pub held : ℕ
 
 -- W1: a fresh row holds nothing, and its front is past the last slot
-unfoldable pub fresh : Row
-fresh = record { slots = replicate Limits.slots empty; states = freshStates; front = Limits.slots; held = 0 }
+unfoldable pub emptyRow : Row
+emptyRow = record { slots = replicate Limits.slots empty; states = freshStates; front = Limits.slots; held = 0 }
 
 -- what an accepted call makes of the row
 unfoldable pub moved : Row → Call → Row
@@ -46,13 +46,13 @@ replyOf row call =
     (Refused (record { number = refusalOf (row .states) call; place = 0 }))
 
 -- the rules' number of a reply (0: no refusal), its place, and its slots examined
-abbrev pub numberOf : Reply → ℕ
-numberOf (Done n) = 0
-numberOf (Refused r) = r .number
+abbrev pub replyNumber : Reply → ℕ
+replyNumber (Done n) = 0
+replyNumber (Refused r) = r .number
 
-abbrev pub placeOf : Reply → ℕ
-placeOf (Done n) = 0
-placeOf (Refused r) = r .place
+abbrev pub replyPlace : Reply → ℕ
+replyPlace (Done n) = 0
+replyPlace (Refused r) = r .place
 
 abbrev pub examinedOf : Reply → ℕ
 examinedOf (Done n) = n

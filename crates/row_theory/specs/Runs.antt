@@ -4,15 +4,15 @@ use mathlib.Core.Path.{_≡_}
 use mathlib.Core.List.{List, [], _∷_}
 use lib.ListN.{getD}
 use Rattle.rules.specs.Limits.{frames, slots}
-use Rattle.row_theory.specs.States.{Call, entry, heldBit, heldIn, refusalOf, accepts, statesThen}
+use Rattle.row_theory.specs.States.{Call, tableAt, heldBit, heldIn, refusalOf, accepts, statesThen}
 use Rattle.row_theory.specs.Slots.{empty, count, framesIn, emptied, squeezedFront, squeezed, roomySlots, roomyFront, vacated, slotsThen, frontThen, examinedThen, passes, older, oldest}
-use Rattle.row_theory.specs.Row.{Row, fresh, moved, after, replyOf, examinedOf, idleAmong, victimAmong, victimOf}
+use Rattle.row_theory.specs.Row.{Row, emptyRow, moved, after, replyOf, examinedOf, idleAmong, victimAmong, victimOf}
 use Rattle.row_theory.specs.declared.Reply.{Reply}
 use Rattle.row_theory.specs.declared.Victim.{Victim}
 
 -- the row that a fresh row and these calls give
 unfoldable pub rowAfter : List Call → Row
-rowAfter [] = fresh
+rowAfter [] = emptyRow
 rowAfter (call ∷ history) = after (rowAfter history) call
 
 -- W5: the slots examined by all of these calls
@@ -50,9 +50,9 @@ answersFrom row (call ∷ calls) = replyOf row call ∷ answersFrom (after row c
 
 -- P9 to P12: what a fresh row answers to these calls, and the victim after them. Whoever unfolds one of the two unfolds all that it computes by
 unfoldable pub answersOf : List Call → List Reply
-unfolding entry heldBit heldIn refusalOf accepts statesThen framesIn emptied squeezedFront squeezed roomySlots roomyFront vacated slotsThen frontThen examinedThen fresh moved after replyOf answersFrom
-answersOf calls = answersFrom fresh calls
+unfolding tableAt heldBit heldIn refusalOf accepts statesThen framesIn emptied squeezedFront squeezed roomySlots roomyFront vacated slotsThen frontThen examinedThen emptyRow moved after replyOf answersFrom
+answersOf calls = answersFrom emptyRow calls
 
 unfoldable pub victimAfterCalls : List Call → Victim
 unfolding answersOf rowFrom passes older oldest idleAmong victimAmong
-victimAfterCalls calls = victimOf (rowFrom fresh calls)
+victimAfterCalls calls = victimOf (rowFrom emptyRow calls)

@@ -10,9 +10,9 @@ use lib.ListN.{length, getD, replicate}
 use lib.Seq.{getD-set-same, getD-set-other}
 use borrow.Author.Tests.{eqb-true, eqb-false}
 use Rattle.rules.specs.Limits.{frames, slots, held}
-use Rattle.row_theory.specs.States.{Call, absent, entry, stateOf, heldBit, heldIn, accepts, statesThen, freshStates}
+use Rattle.row_theory.specs.States.{Call, absent, tableAt, stateOf, heldBit, heldIn, accepts, statesThen, freshStates}
 use Rattle.row_theory.specs.Slots.{empty, framesIn, count}
-use Rattle.row_theory.specs.Row.{Row, fresh, moved, after}
+use Rattle.row_theory.specs.Row.{Row, emptyRow, moved, after}
 use Rattle.row_theory.specs.History.{statesAfter, momentAfter}
 use Rattle.row_theory.specs.Runs.{rowAfter, Recent}
 use Rattle.rules.specs.Cases.{by-cases}
@@ -52,10 +52,10 @@ once-then states call list good e once frame =
     let inside : call .frame < length states = omega (arith, accepted states call e .small, good .long) in
     rw (states-accepted states call e)
     (by-cases (eqb (call .frame) frame)
-    (λ same. rw (← eqb-true (call .frame) frame same, getD-set-same states (call .frame) (entry (stateOf states (call .frame)) (call .event)) absent inside)
+    (λ same. rw (← eqb-true (call .frame) frame same, getD-set-same states (call .frame) (tableAt (stateOf states (call .frame)) (call .event)) absent inside)
     (count-then (call .event) (call .frame) list (once (call .frame) ∙ fx .was) ∙ sym (fx .becomes)))
     (λ other. let ne : call .frame ≡ frame → ⊥ = eqb-false (call .frame) frame other in
-    rw (getD-set-other states (call .frame) frame (entry (stateOf states (call .frame)) (call .event)) absent (λ back. ne (sym back)))
+    rw (getD-set-other states (call .frame) frame (tableAt (stateOf states (call .frame)) (call .event)) absent (λ back. ne (sym back)))
     (count-then-other (call .event) (call .frame) frame list ne ∙ once frame)))
 
 pub sound-accepted : {row : Row} {states : List ℕ} {m : ℕ → ℕ} (n : ℕ → ℕ) (call : Call) → Sound row states m → GoodStates states → accepts states call ≡ true →
@@ -105,8 +105,8 @@ once-fresh zero frame = refl
 once-fresh (suc n) zero = refl
 once-fresh (suc n) (suc frame) = once-fresh n frame
 
-sound-fresh : Sound fresh freshStates (momentAfter [])
-unfolding fresh framesIn count Recent
+sound-fresh : Sound emptyRow freshStates (momentAfter [])
+unfolding emptyRow framesIn count Recent
 sound-fresh =
     record {
       sameStates = refl;

@@ -10,7 +10,7 @@ use lib.ListN.{length, getD, set}
 use borrow.Author.Tests.{eqb-true, leb-false, ltb-false, ltb-true}
 use Rattle.rules.specs.Limits.{frames, held}
 use Rattle.rules.specs.Refusals.{badFrame, rowFull}
-use Rattle.row_theory.specs.States.{Call, absent, idle, busy, entry, stateOf, heldBit, heldIn, ruleOf, isPut, refusalOf, accepts}
+use Rattle.row_theory.specs.States.{Call, absent, idle, busy, tableAt, stateOf, heldBit, heldIn, ruleOf, isPut, refusalOf, accepts}
 use Rattle.rules.specs.Cases.{by-cases}
 use Rattle.row_theory.specs.declared.Event.{Event}
 use Rattle.row_theory.specs.declared.Event.the-variants.{Put, Touch, Start, End, Drop}
@@ -24,10 +24,10 @@ each-state P a i b (suc (suc (suc n))) h = absurd (not-suc-le-zero (le-of-suc-le
 
 -- W6: the table says what the refusals' own words say, at all of its fifteen entries
 abbrev RuleAt : Event → ℕ → Type 0
-RuleAt event s = entry s event ≡ ruleOf s event
+RuleAt event s = tableAt s event ≡ ruleOf s event
 
-pub table-rule : (event : Event) (state : ℕ) → state ≤ busy → entry state event ≡ ruleOf state event
-unfolding entry ruleOf
+pub table-rule : (event : Event) (state : ℕ) → state ≤ busy → tableAt state event ≡ ruleOf state event
+unfolding tableAt ruleOf
 table-rule Put = each-state (RuleAt Put) refl refl refl
 table-rule Touch = each-state (RuleAt Touch) refl refl refl
 table-rule Start = each-state (RuleAt Start) refl refl refl
@@ -55,10 +55,10 @@ bitLater End = 1
 bitLater Drop = 0
 
 abbrev EffectAt : Event → ℕ → Type 0
-EffectAt event s = entry s event ≤ busy → Effect (bitBefore event) (bitLater event) s (entry s event)
+EffectAt event s = tableAt s event ≤ busy → Effect (bitBefore event) (bitLater event) s (tableAt s event)
 
-pub effect : (event : Event) (state : ℕ) → state ≤ busy → entry state event ≤ busy → Effect (bitBefore event) (bitLater event) state (entry state event)
-unfolding entry heldBit
+pub effect : (event : Event) (state : ℕ) → state ≤ busy → tableAt state event ≤ busy → Effect (bitBefore event) (bitLater event) state (tableAt state event)
+unfolding tableAt heldBit
 effect Put = each-state (EffectAt Put) (λ h. record { was = refl; becomes = refl }) (λ h. omega arith) (λ h. omega arith)
 effect Touch = each-state (EffectAt Touch) (λ h. omega arith) (λ h. record { was = refl; becomes = refl }) (λ h. record { was = refl; becomes = refl })
 effect Start = each-state (EffectAt Start) (λ h. omega arith) (λ h. record { was = refl; becomes = refl }) (λ h. omega arith)
@@ -66,8 +66,8 @@ effect End = each-state (EffectAt End) (λ h. omega arith) (λ h. omega arith) (
 effect Drop = each-state (EffectAt Drop) (λ h. omega arith) (λ h. record { was = refl; becomes = refl }) (λ h. omega arith)
 
 -- D1: no event makes a busy frame absent
-pub busy-stays : (event : Event) → entry busy event ≡ absent → ⊥
-unfolding entry
+pub busy-stays : (event : Event) → tableAt busy event ≡ absent → ⊥
+unfolding tableAt
 busy-stays Put e = omega arith
 busy-stays Touch e = omega arith
 busy-stays Start e = omega arith
@@ -75,9 +75,9 @@ busy-stays End e = omega arith
 busy-stays Drop e = omega arith
 
 -- what acceptance says
-pub record Accepted (states : List ℕ) (call : Call) : Type 0 where
+pub record Acceptance (states : List ℕ) (call : Call) : Type 0 where
   pub small : call .frame < frames
-  pub allowed : entry (stateOf states (call .frame)) (call .event) ≤ busy
+  pub allowed : tableAt (stateOf states (call .frame)) (call .event) ≤ busy
   pub room : isPut (call .event) ≡ true → heldIn states < held
 
 accepted-chain :
@@ -89,10 +89,10 @@ accepted-chain false true b₃ cell h e =
 accepted-chain false false true cell h e = absurd (false≢true e)
 accepted-chain false false false cell h e = (refl, refl, refl)
 
-pub accepted : (states : List ℕ) (call : Call) → accepts states call ≡ true → Accepted states call
+pub accepted : (states : List ℕ) (call : Call) → accepts states call ≡ true → Acceptance states call
 unfolding accepts refusalOf
 accepted states call e =
-    let cell = entry (stateOf states (call .frame)) (call .event) in
+    let cell = tableAt (stateOf states (call .frame)) (call .event) in
     let tests = accepted-chain (leb frames (call .frame)) (ltb busy cell) (isPut (call .event) && leb held (heldIn states)) cell (ltb-true busy cell) e in
     record {
       small = leb-false frames (call .frame) (tests .0);

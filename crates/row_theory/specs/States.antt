@@ -24,8 +24,8 @@ abbrev pub busy : ℕ
 busy = 2
 
 -- W6 as it is written: rows absent, idle, busy; columns put, touch, start, end, drop. An entry above `busy` is a refusal
-abbrev pub table : List (List ℕ)
-table =
+abbrev pub stateTable : List (List ℕ)
+stateTable =
     (idle ∷ notHeld ∷ notHeld ∷ notHeld ∷ notHeld ∷ [])
     ∷ (heldAlready ∷ idle ∷ busy ∷ idleFrame ∷ absent ∷ [])
     ∷ (heldAlready ∷ busy ∷ busyFrame ∷ idle ∷ busyFrame ∷ [])
@@ -39,8 +39,8 @@ column End = 3
 column Drop = 4
 
 -- the table's entry for a state and an event
-unfoldable pub entry : ℕ → Event → ℕ
-entry state event = getD (getD table state []) (column event) 0
+unfoldable pub tableAt : ℕ → Event → ℕ
+tableAt state event = getD (getD stateTable state []) (column event) 0
 
 -- R21 to R24 and W6 in words: the refusal of an event in a state, or the next state
 unfoldable pub ruleOf : ℕ → Event → ℕ
@@ -82,7 +82,7 @@ moves Drop = false
 unfoldable pub refusalOf : List ℕ → Call → ℕ
 refusalOf states call =
     cond (leb frames (call .frame)) badFrame
-    (cond (ltb busy (entry (stateOf states (call .frame)) (call .event))) (entry (stateOf states (call .frame)) (call .event))
+    (cond (ltb busy (tableAt (stateOf states (call .frame)) (call .event))) (tableAt (stateOf states (call .frame)) (call .event))
     (cond (isPut (call .event) && leb held (heldIn states)) rowFull 0))
 
 unfoldable pub accepts : List ℕ → Call → Bool
@@ -95,4 +95,4 @@ freshStates = replicate frames absent
 -- the states after a call: an accepted one gives its frame the table's entry
 unfoldable pub statesThen : List ℕ → Call → List ℕ
 statesThen states call =
-    cond (accepts states call) (set states (call .frame) (entry (stateOf states (call .frame)) (call .event))) states
+    cond (accepts states call) (set states (call .frame) (tableAt (stateOf states (call .frame)) (call .event))) states

@@ -9,8 +9,8 @@ use lib.ListN.{length}
 use lib.Seq.{getD-set-same, getD-set-other}
 use borrow.Author.Tests.{eqb-true, eqb-false, ltb-true, ltb-false}
 use Rattle.rules.specs.Limits.{frames, slots, held}
-use Rattle.rules.specs.Refusals.{nothingHeld, allBusy}
-use Rattle.row_theory.specs.States.{Call, absent, busy, entry, stateOf, heldBit, heldIn, accepts, statesThen}
+use Rattle.rules.specs.Refusals.{badFrame, rowFull, nothingHeld, allBusy}
+use Rattle.row_theory.specs.States.{Call, absent, busy, stateTable, tableAt, stateOf, heldBit, heldIn, accepts, statesThen}
 use Rattle.row_theory.specs.Slots.{framesIn, count}
 use Rattle.row_theory.specs.Row.{replyOf, examinedOf, anyFrame, victimAmong, victimOf}
 use Rattle.row_theory.specs.History.{statesAfter, momentAfter, movesAfter, Victim-is, Victim-says}
@@ -24,6 +24,17 @@ use Rattle.row_theory.specs.Bound.{paid-after}
 use Rattle.row_theory.specs.SqueezeLaws.{packed-after}
 use Rattle.row_theory.specs.VictimLaws.{oldestNow, oldest-victim, oldest-no-victim}
 use Rattle.row_theory.specs.declared.Victim.the-variants.{Given}
+
+-- W6: the table in the rules' own numbers, where 0 is absent, 1 idle and 2 busy; and the numbers that stand outside it (R20, R25 to R27)
+pub table-numbers : stateTable ≡
+    (1 ∷ 22 ∷ 22 ∷ 22 ∷ 22 ∷ [])
+    ∷ (21 ∷ 1 ∷ 2 ∷ 24 ∷ 0 ∷ [])
+    ∷ (21 ∷ 2 ∷ 23 ∷ 1 ∷ 23 ∷ [])
+    ∷ []
+table-numbers = refl
+
+pub other-numbers : badFrame ∷ rowFull ∷ nothingHeld ∷ allBusy ∷ [] ≡ 20 ∷ 25 ∷ 26 ∷ 27 ∷ []
+other-numbers = refl
 
 -- W1: the slots hold exactly the held frames, each once
 pub slots-hold : (history : List Call) (frame : ℕ) → frame < frames → count frame (rowAfter history .slots) ≡ heldBit (stateOf (statesAfter history) frame)
@@ -86,9 +97,9 @@ busy-kept call history frame isBusy gone =
     let inside : call .frame < length (statesAfter history) = omega (arith, accepted (statesAfter history) call e .small, good-after history .long) in
     let was : stateOf (statesAfter history) (call .frame) ≡ busy = rw (← eq) isBusy in
     busy-stays (call .event)
-    (rw (states-accepted (statesAfter history) call e, eq, getD-set-same (statesAfter history) (call .frame) (entry (stateOf (statesAfter history) (call .frame)) (call .event)) absent inside, was) at gone))
+    (rw (states-accepted (statesAfter history) call e, eq, getD-set-same (statesAfter history) (call .frame) (tableAt (stateOf (statesAfter history) (call .frame)) (call .event)) absent inside, was) at gone))
     (λ other. let same-state : stateOf (statesThen (statesAfter history) call) frame ≡ stateOf (statesAfter history) frame =
-    rw (states-accepted (statesAfter history) call e) (getD-set-other (statesAfter history) (call .frame) frame (entry (stateOf (statesAfter history) (call .frame)) (call .event)) absent (eqb-false frame (call .frame) other)) in
+    rw (states-accepted (statesAfter history) call e) (getD-set-other (statesAfter history) (call .frame) frame (tableAt (stateOf (statesAfter history) (call .frame)) (call .event)) absent (eqb-false frame (call .frame) other)) in
     omega arith))
     (λ e. omega (arith, ap (λ (l : List ℕ). stateOf l frame) (states-refused (statesAfter history) call e)))
 

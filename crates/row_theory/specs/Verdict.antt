@@ -5,7 +5,7 @@ use mathlib.Core.List.{List}
 use lib.Dec.{leb, ltb}
 use Rattle.rules.specs.Limits.{frames, held}
 use Rattle.rules.specs.Refusals.{badFrame, rowFull}
-use Rattle.row_theory.specs.States.{busy, entry, stateOf, isPut}
+use Rattle.row_theory.specs.States.{busy, tableAt, stateOf, isPut}
 use Rattle.row_theory.specs.declared.Event.{Event}
 use Rattle.row_theory.specs.declared.Event.the-variants.{Put, Touch, Start, End, Drop}
 
@@ -13,8 +13,8 @@ use Rattle.row_theory.specs.declared.Event.the-variants.{Put, Touch, Sta
 unfoldable pub verdictOf : List ℕ → ℕ → Event → ℕ → ℕ
 verdictOf states number event frame =
     cond (leb frames frame) badFrame
-    (cond (ltb busy (entry (stateOf states frame) event)) (entry (stateOf states frame) event)
-    (cond (isPut event && leb held number) rowFull (entry (stateOf states frame) event)))
+    (cond (ltb busy (tableAt (stateOf states frame) event)) (tableAt (stateOf states frame) event)
+    (cond (isPut event && leb held number) rowFull (tableAt (stateOf states frame) event)))
 
 -- the number held after an accepted call
 abbrev pub heldThen : Event → ℕ → ℕ

@@ -9,7 +9,7 @@ use lib.ListN.{set}
 use borrow.Author.Tests.{eq-eqb, ne-eqb, lt-ltb, le-ltb, ltb-true, ltb-false, lt-leb, le-leb}
 use Rattle.rules.specs.Limits.{frames, slots, held}
 use Rattle.rules.specs.Refusals.{badFrame, rowFull}
-use Rattle.row_theory.specs.States.{Call, busy, entry, stateOf, heldIn, isPut, refusalOf, accepts, statesThen}
+use Rattle.row_theory.specs.States.{Call, busy, tableAt, stateOf, heldIn, isPut, refusalOf, accepts, statesThen}
 use Rattle.row_theory.specs.Slots.{slotsThen, frontThen, examinedThen}
 use Rattle.row_theory.specs.Row.{Row, moved, after, replyOf}
 use Rattle.row_theory.specs.Promise.{rowWith, asked}
@@ -51,7 +51,7 @@ chain false false false cell h big = absurd (omega (arith, h refl))
 refused-number : (states : List ℕ) (n : ℕ) (event : Event) (frame : ℕ) → n ≡ heldIn states → busy < verdictOf states n event frame → refusalOf states (asked event frame) ≡ verdictOf states n event frame
 unfolding refusalOf verdictOf
 refused-number states n event frame number big =
-    rw (← number) (chain (leb frames frame) (ltb busy (entry (stateOf states frame) event)) (isPut event && leb held n) (entry (stateOf states frame) event) (ltb-false busy (entry (stateOf states frame) event)) big)
+    rw (← number) (chain (leb frames frame) (ltb busy (tableAt (stateOf states frame) event)) (isPut event && leb held n) (tableAt (stateOf states frame) event) (ltb-false busy (tableAt (stateOf states frame) event)) big)
 
 pub refused-verdict : (row : Row) (event : Event) (frame : ℕ) → row .held ≡ heldIn (row .states) → busy < verdictOf (row .states) (row .held) event frame →
     Refusing row (asked event frame) (verdictOf (row .states) (row .held) event frame)
@@ -67,10 +67,10 @@ chain-accepted false false true cell h small = absurd (omega arith)
 chain-accepted false false false cell h small = (refl, refl)
 
 accepted-number : (states : List ℕ) (n : ℕ) (event : Event) (frame : ℕ) → n ≡ heldIn states → verdictOf states n event frame ≤ busy →
-    (refusalOf states (asked event frame) ≡ 0) × (verdictOf states n event frame ≡ entry (stateOf states frame) event)
+    (refusalOf states (asked event frame) ≡ 0) × (verdictOf states n event frame ≡ tableAt (stateOf states frame) event)
 unfolding refusalOf verdictOf
 accepted-number states n event frame number small =
-    rw (← number) (chain-accepted (leb frames frame) (ltb busy (entry (stateOf states frame) event)) (isPut event && leb held n) (entry (stateOf states frame) event) (ltb-true busy (entry (stateOf states frame) event)) small)
+    rw (← number) (chain-accepted (leb frames frame) (ltb busy (tableAt (stateOf states frame) event)) (isPut event && leb held n) (tableAt (stateOf states frame) event) (ltb-true busy (tableAt (stateOf states frame) event)) small)
 
 heldThen-law : (event : Event) (n m : ℕ) → m + bitBefore event ≡ n + bitLater event → m ≡ heldThen event n
 heldThen-law Put n m e = omega arith
@@ -122,18 +122,18 @@ pub verdict-past : (states : List ℕ) (n : ℕ) (event : Event) (frame : ℕ) �
 unfolding verdictOf
 verdict-past states n event frame past = rw (le-leb frames frame past)
 
-pub verdict-table : (states : List ℕ) (n : ℕ) (event : Event) (frame : ℕ) {cell : ℕ} → frame < frames → cell ≡ entry (stateOf states frame) event → busy < cell → cell ≡ verdictOf states n event frame
+pub verdict-table : (states : List ℕ) (n : ℕ) (event : Event) (frame : ℕ) {cell : ℕ} → frame < frames → cell ≡ tableAt (stateOf states frame) event → busy < cell → cell ≡ verdictOf states n event frame
 unfolding verdictOf
 verdict-table states n event frame small is big =
     rw (lt-leb frames frame small, ← is, lt-ltb busy _ big)
 
-pub verdict-full : (states : List ℕ) (n : ℕ) (event : Event) (frame : ℕ) {cell : ℕ} {full : Bool} → frame < frames → cell ≡ entry (stateOf states frame) event → cell ≤ busy → full ≡ (isPut event && leb held n) → full ≡ true →
+pub verdict-full : (states : List ℕ) (n : ℕ) (event : Event) (frame : ℕ) {cell : ℕ} {full : Bool} → frame < frames → cell ≡ tableAt (stateOf states frame) event → cell ≤ busy → full ≡ (isPut event && leb held n) → full ≡ true →
     rowFull ≡ verdictOf states n event frame
 unfolding verdictOf
 verdict-full states n event frame small is low says full =
     rw (lt-leb frames frame small, ← is, le-ltb busy _ low, ← says, full)
 
-pub verdict-next : (states : List ℕ) (n : ℕ) (event : Event) (frame : ℕ) {cell : ℕ} {full : Bool} → frame < frames → cell ≡ entry (stateOf states frame) event → cell ≤ busy → full ≡ (isPut event && leb held n) → full ≡ false →
+pub verdict-next : (states : List ℕ) (n : ℕ) (event : Event) (frame : ℕ) {cell : ℕ} {full : Bool} → frame < frames → cell ≡ tableAt (stateOf states frame) event → cell ≤ busy → full ≡ (isPut event && leb held n) → full ≡ false →
     cell ≡ verdictOf states n event frame
 unfolding verdictOf
 verdict-next states n event frame small is low says room =

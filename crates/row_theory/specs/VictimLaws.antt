@@ -16,7 +16,7 @@ use Rattle.row_theory.specs.Runs.{rowAfter}
 use Rattle.row_theory.specs.Counting.{and-left, and-right}
 use Rattle.row_theory.specs.SlotLaws.{count-past}
 use Rattle.row_theory.specs.SoundRow.{sound-after}
-use Rattle.row_theory.specs.Oldest.{Chosen, oldest-framesIn, oldest-none, oldest-chosen}
+use Rattle.row_theory.specs.Oldest.{EarliestPassing, oldest-framesIn, oldest-none, oldest-chosen}
 
 -- an idle frame stands in the slots
 idle-there : (history : List Call) (frame : ℕ) → stateOf (statesAfter history) frame ≡ idle →
@@ -56,7 +56,7 @@ module _ (history : List Call) (may : ℕ → Bool) where
       let list = framesIn (rowAfter history .slots) in
       let test = idleAmong may (statesAfter history) in
       let same : oldest test list ≡ oldestNow = oldest-framesIn test (rowAfter history .slots) in
-      let chosen : Chosen test list (momentAfter history) oldestNow =
+      let chosen : EarliestPassing test list (momentAfter history) oldestNow =
       rw (← same) (oldest-chosen test (momentAfter history) list (sound-after history .order) (rw same found)) in
       record {
         mayGo = passes-goes history may oldestNow (chosen .bears);
