@@ -15,9 +15,10 @@ ghost use Prim.Native.Nat.{ℕ, _<_, _≤_};
 ghost use lib.Dec.{leb};
 ghost use lib.ListN.{getD};
 ghost use Rattle.rules.specs.Limits.{held as heldLimit, slots as slotCount};
-ghost use Rattle.row_theory.specs.States.{busy, tableAt, isPut};
+ghost use Rattle.row_theory.specs.States.{busy, heldIn, tableAt, isPut, verdictOf};
+ghost use Rattle.row_theory.specs.Promise.{asked};
 ghost use Rattle.row_theory.specs.StateLaws.{bitLater};
-ghost use Rattle.row_theory.specs.Verdict.{verdictOf, heldThen};
+ghost use Rattle.row_theory.specs.Lending.{heldThen};
 
 pub(crate) const ABSENT: u8 = 0;
 
@@ -62,8 +63,8 @@ fn full(event: Event, held: usize) -> bool
 
 // The refusal's number, or the state that the call gives its frame (rule O6).
 pub(crate) fn verdict(states: &PerFrame, held: usize, event: Event, frame: u8) -> u8
-    requires { ⌜ ((f : ℕ) → getD (now states) f 0 ≤ busy) ⌝ }
-    ensures { λ r. ⌜ r ≡ verdictOf (now (states .entry)) held event frame ⌝ }
+    requires { ⌜ ((f : ℕ) → getD (now states) f 0 ≤ busy) × (held ≡ heldIn (now states)) ⌝ }
+    ensures { λ r. ⌜ r ≡ verdictOf (now (states .entry)) (asked event frame) ⌝ }
 {
     if FRAMES <= frame {
         return BAD_FRAME;

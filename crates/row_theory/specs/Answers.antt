@@ -4,13 +4,13 @@ use native.Mathlib.Omega.{arith}
 use mathlib.Core.Path.{_≡_, sym, _∙_, ap}
 use mathlib.Core.Bool.{Bool, false, false≢true}
 use mathlib.Core.List.{List}
-use lib.Dec.{ltb, eqb}
+use lib.Dec.{leb, ltb, eqb}
 use lib.ListN.{List·getD-eq-default}
-use borrow.Author.Tests.{ltb-false, ne-eqb}
+use borrow.Author.Tests.{leb-false, ltb-false, ne-eqb}
 use Rattle.rules.specs.Limits.{frames}
 use Rattle.rules.specs.Cases.{by-cases}
 use Rattle.rules.specs.declared.Refusal.{Refusal}
-use Rattle.row_theory.specs.States.{Call, absent, stateOf, refusalOf, accepts}
+use Rattle.row_theory.specs.States.{Call, absent, busy, stateOf, verdictOf, refusalOf, accepts}
 use Rattle.row_theory.specs.Row.{Row, replyNumber, replyPlace}
 use Rattle.row_theory.specs.History.{statesAfter}
 use Rattle.row_theory.specs.Runs.{rowAfter}
@@ -25,8 +25,11 @@ use Rattle.row_theory.specs.declared.Victim.{Victim}
 module _ {m m′ : Memory} {call : Call} {reply : Reply} where
   -- O6: a reply's number is 0 exactly where the call is accepted
   pub number-accepts : Answered m call reply m′ → eqb (replyNumber reply) 0 ≡ accepts (m .states) call
-  unfolding accepts
-  number-accepts met = ap (λ (n : ℕ). eqb n 0) (ap replyNumber (met .answer) ∙ number-of-reply (rowIn m) call)
+  unfolding refusalOf accepts
+  number-accepts met =
+      ap (λ (n : ℕ). eqb n 0) (ap replyNumber (met .answer) ∙ number-of-reply (rowIn m) call) ∙
+      by-cases (leb (verdictOf (m .states) call) busy) (λ e. rw e)
+      (λ e. rw e (ne-eqb (verdictOf (m .states) call) 0 (λ zero. omega (arith, leb-false (verdictOf (m .states) call) busy e))))
 
   -- A1: its place is 0
   pub reply-place : Answered m call reply m′ → replyPlace reply ≡ 0

@@ -33,9 +33,10 @@ heldIn-absent zero = refl
 heldIn-absent (suc n) = omega (arith, heldIn-absent n)
 
 -- an accepted call stores the table's entry at its frame
-pub states-accepted : (states : List ℕ) (call : Call) → accepts states call ≡ true → statesThen states call ≡ set states (call .frame) (tableAt (stateOf states (call .frame)) (call .event))
+pub states-accepted : (states : List ℕ) (call : Call) → accepts states call ≡ true →
+    statesThen states call ≡ set states (call .frame) (tableAt (stateOf states (call .frame)) (call .event))
 unfolding statesThen
-states-accepted states call e = rw e
+states-accepted states call e = rw (e, accepted states call e .next)
 
 pub states-refused : (states : List ℕ) (call : Call) → accepts states call ≡ false → statesThen states call ≡ states
 unfolding statesThen

@@ -26,12 +26,11 @@ pub mod Oldest
 pub mod VictimLaws
 pub mod PromiseLaws
 -- What the code's own steps ask and leave, and the laws that its proofs cite.
-pub mod Verdict
+pub mod Lending
 pub mod VerdictLaws
 pub mod PlaceLaws
 pub mod Packing
 pub mod PackingLaws
-pub mod Lending
 pub mod LendingLaws
 pub mod ShiftLaws
 pub mod CallLaws

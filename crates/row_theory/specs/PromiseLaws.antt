@@ -1,6 +1,5 @@
 -- The promises follow from their equations.
 use Prim.Native.Nat.{ℕ}
-use borrow.Author.Tests.{eqb-true}
 use mathlib.Core.Path.{_≡_, sym, _∙_, ap, subst, subst₂}
 use mathlib.Core.Bool.{Bool}
 use mathlib.Core.List.{List, [], _∷_}
@@ -19,11 +18,8 @@ use Rattle.row_theory.specs.declared.Victim.{Victim}
 
 -- A1: the number and the place of what a call answers
 pub number-of-reply : (row : Row) (call : Call) → replyNumber (replyOf row call) ≡ refusalOf (row .states) call
-unfolding replyOf
-number-of-reply row call =
-    by-cases (accepts (row .states) call)
-    (λ e. rw e (sym (eqb-true (refusalOf (row .states) call) 0 (unfold accepts in e))))
-    (λ e. rw e)
+unfolding replyOf refusalOf
+number-of-reply row call = by-cases (accepts (row .states) call) (λ e. rw e) (λ e. rw e)
 
 pub place-of-reply : (row : Row) (call : Call) → replyPlace (replyOf row call) ≡ 0
 unfolding replyOf

@@ -4,7 +4,7 @@ use mathlib.Core.Path.{_≡_}
 use mathlib.Core.List.{List, [], _∷_}
 use lib.ListN.{getD}
 use Rattle.rules.specs.Limits.{frames, slots}
-use Rattle.row_theory.specs.States.{Call, tableAt, heldBit, heldIn, refusalOf, accepts, statesThen}
+use Rattle.row_theory.specs.States.{Call, tableAt, heldBit, heldIn, verdictOf, refusalOf, accepts, statesThen}
 use Rattle.row_theory.specs.Slots.{empty, count, framesIn, emptied, squeezedFront, squeezed, roomySlots, roomyFront, vacated, slotsThen, frontThen, examinedThen, passes, older, oldest}
 use Rattle.row_theory.specs.Row.{Row, emptyRow, moved, after, replyOf, examinedOf, idleAmong, victimAmong, victimOf}
 use Rattle.row_theory.specs.declared.Reply.{Reply}
@@ -50,7 +50,7 @@ answersFrom row (call ∷ calls) = replyOf row call ∷ answersFrom (after row c
 
 -- P9 to P12: what a fresh row answers to these calls, and the victim after them. Whoever unfolds one of the two unfolds all that it computes by
 unfoldable pub answersOf : List Call → List Reply
-unfolding tableAt heldBit heldIn refusalOf accepts statesThen framesIn emptied squeezedFront squeezed roomySlots roomyFront vacated slotsThen frontThen examinedThen emptyRow moved after replyOf answersFrom
+unfolding tableAt heldBit heldIn verdictOf refusalOf accepts statesThen framesIn emptied squeezedFront squeezed roomySlots roomyFront vacated slotsThen frontThen examinedThen emptyRow moved after replyOf answersFrom
 answersOf calls = answersFrom emptyRow calls
 
 unfoldable pub victimAfterCalls : List Call → Victim

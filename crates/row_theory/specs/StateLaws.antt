@@ -3,14 +3,14 @@ use Prim.Native.Nat.{ℕ, zero, suc, _+_, _<_, _≤_}
 use native.Mathlib.Nat.{not-suc-le-zero, le-of-suc-le-suc}
 use native.Mathlib.Omega.{arith}
 use mathlib.Core.Path.{_≡_, refl}
-use mathlib.Core.Bool.{Bool, true, false, cond, _&&_, false≢true}
+use mathlib.Core.Bool.{Bool, true, false, cond, _&&_}
 use mathlib.Core.List.{List, [], _∷_}
 use lib.Dec.{leb, ltb, eqb}
 use lib.ListN.{length, getD, set}
-use borrow.Author.Tests.{eqb-true, leb-false, ltb-false, ltb-true}
+use borrow.Author.Tests.{leb-true, leb-false, ltb-false, ltb-true}
 use Rattle.rules.specs.Limits.{frames, held}
 use Rattle.rules.specs.Refusals.{badFrame, rowFull}
-use Rattle.row_theory.specs.States.{Call, absent, idle, busy, tableAt, stateOf, heldBit, heldIn, ruleOf, isPut, refusalOf, accepts}
+use Rattle.row_theory.specs.States.{Call, absent, idle, busy, tableAt, stateOf, heldBit, heldIn, ruleOf, isPut, verdictOf, accepts}
 use Rattle.rules.specs.Cases.{by-cases}
 use Rattle.row_theory.specs.declared.Event.{Event}
 use Rattle.row_theory.specs.declared.Event.the-variants.{Put, Touch, Start, End, Drop}
@@ -77,25 +77,27 @@ busy-stays Drop e = omega arith
 -- what acceptance says
 pub record Acceptance (states : List ℕ) (call : Call) : Type 0 where
   pub small : call .frame < frames
+  pub next : verdictOf states call ≡ tableAt (stateOf states (call .frame)) (call .event)
   pub allowed : tableAt (stateOf states (call .frame)) (call .event) ≤ busy
   pub room : isPut (call .event) ≡ true → heldIn states < held
 
-accepted-chain :
-    (b₁ b₂ b₃ : Bool) (cell : ℕ) → (b₂ ≡ true → busy < cell) → eqb (cond b₁ badFrame (cond b₂ cell (cond b₃ rowFull 0))) 0 ≡ true →
+-- no test of the order of refusals stands against an accepted call
+passed : (b₁ b₂ b₃ : Bool) (cell : ℕ) → (b₂ ≡ true → busy < cell) → cond b₁ badFrame (cond b₂ cell (cond b₃ rowFull cell)) ≤ busy →
     (b₁ ≡ false) × (b₂ ≡ false) × (b₃ ≡ false)
-accepted-chain true b₂ b₃ cell h e = absurd (false≢true e)
-accepted-chain false true b₃ cell h e =
-    let z : cell ≡ 0 = eqb-true cell 0 e in let big : busy < cell = h refl in absurd (omega arith)
-accepted-chain false false true cell h e = absurd (false≢true e)
-accepted-chain false false false cell h e = (refl, refl, refl)
+passed true b₂ b₃ cell h low = absurd (omega arith)
+passed false true b₃ cell h low = absurd (omega (arith, h refl))
+passed false false true cell h low = absurd (omega arith)
+passed false false false cell h low = (refl, refl, refl)
 
 pub accepted : (states : List ℕ) (call : Call) → accepts states call ≡ true → Acceptance states call
-unfolding accepts refusalOf
+unfolding accepts verdictOf
 accepted states call e =
     let cell = tableAt (stateOf states (call .frame)) (call .event) in
-    let tests = accepted-chain (leb frames (call .frame)) (ltb busy cell) (isPut (call .event) && leb held (heldIn states)) cell (ltb-true busy cell) e in
+    let full = isPut (call .event) && leb held (heldIn states) in
+    let tests = passed (leb frames (call .frame)) (ltb busy cell) full cell (ltb-true busy cell) (leb-true _ busy e) in
     record {
       small = leb-false frames (call .frame) (tests .0);
+      next = rw (tests .0, tests .1, tests .2);
       allowed = ltb-false busy cell (tests .1);
       room = λ put. leb-false held (heldIn states) (rw put at (tests .2));
     }

@@ -78,21 +78,25 @@ moves Start = false
 moves End = false
 moves Drop = false
 
--- O6: 20, then the table, then 25; 0 stands for "no refusal"
-unfoldable pub refusalOf : List ℕ → Call → ℕ
-refusalOf states call =
+-- O6, the verdict on a call: 20, then a refusal of the table, then 25; and if none applies the state that the table gives its frame
+unfoldable pub verdictOf : List ℕ → Call → ℕ
+verdictOf states call =
+    let next = tableAt (stateOf states (call .frame)) (call .event) in
     cond (leb frames (call .frame)) badFrame
-    (cond (ltb busy (tableAt (stateOf states (call .frame)) (call .event))) (tableAt (stateOf states (call .frame)) (call .event))
-    (cond (isPut (call .event) && leb held (heldIn states)) rowFull 0))
+    (cond (ltb busy next) next
+    (cond (isPut (call .event) && leb held (heldIn states)) rowFull next))
 
 unfoldable pub accepts : List ℕ → Call → Bool
-accepts states call = eqb (refusalOf states call) 0
+accepts states call = leb (verdictOf states call) busy
+
+-- the refusal's number; 0 stands for "no refusal"
+unfoldable pub refusalOf : List ℕ → Call → ℕ
+refusalOf states call = cond (accepts states call) 0 (verdictOf states call)
 
 -- every frame absent
 abbrev pub freshStates : List ℕ
 freshStates = replicate frames absent
 
--- the states after a call: an accepted one gives its frame the table's entry
+-- the states after a call: an accepted one gives its frame the table's next state
 unfoldable pub statesThen : List ℕ → Call → List ℕ
-statesThen states call =
-    cond (accepts states call) (set states (call .frame) (tableAt (stateOf states (call .frame)) (call .event))) states
+statesThen states call = cond (accepts states call) (set states (call .frame) (verdictOf states call)) states

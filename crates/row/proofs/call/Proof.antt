@@ -8,22 +8,37 @@ verdict-requires : tie.Need-verdict-requires
 verdict-requires c κs = known-states (c .before .before .pre)
 
 returns : tie.Need-returns
-returns c = call-refused (c .before .before .before .before .pre) (c .before .verdict .ensures) (c .if1 .taken)
+returns c =
+    let judged = c .before in
+    call-refused (judged .before .before .before .pre) (judged .verdict .ensures) (c .if1 .taken)
 
 shift-requires : tie.Need-shift-requires
-shift-requires c κs = call-shiftable _ _ (c .before .before .before .before .before .before .before .pre) (c .before .before .before .before .verdict .ensures) (c .before .before .before .if1 .left)
+shift-requires c κs =
+    let allowed = c .before .before .before in
+    let judged = allowed .before in
+    call-shiftable _ _ (judged .before .before .before .pre) (judged .verdict .ensures) (allowed .if1 .left)
 
 cast-states : tie.Need-cast-states
 cast-states c = search needs
 
 element-write-states : tie.Need-element-write-states
-element-write-states c = call-shiftable _ _ (c .before .before .before .before .before .before .before .before .pre) (c .before .before .before .before .before .verdict .ensures) (c .before .before .before .before .if1 .left) .ready .small
+element-write-states c =
+    let allowed = c .before .before .before .before in
+    let judged = allowed .before in
+    call-shiftable _ _ (judged .before .before .before .pre) (judged .verdict .ensures) (allowed .if1 .left) .ready .small
 
 recount-requires : tie.Need-recount-requires
-recount-requires c κs = call-countable _ _ (c .before .before .before .before .before .before .before .before .pre) (c .before .before .before .before .before .verdict .ensures) (c .before .before .before .before .if1 .left)
+recount-requires c κs =
+    let allowed = c .before .before .before .before in
+    let judged = allowed .before in
+    call-countable _ _ (judged .before .before .before .pre) (judged .verdict .ensures) (allowed .if1 .left)
 
 returns-2 : tie.Need-returns-2
-returns-2 c = call-done (c .before .before .before .before .before .before .before .before .before .pre) (c .before .before .before .before .before .before .verdict .ensures) (c .before .before .before .before .before .if1 .left) (c .before .shift .ensures) (c .recount .ensures)
+returns-2 c =
+    let allowed = c .before .before .before .before .before in
+    let judged = allowed .before in
+    call-done _ _ (judged .before .before .before .pre) (judged .verdict .ensures) (allowed .if1 .left) (c .before .shift .ensures)
+    (c .recount .ensures)
 
 pub call-spec : {M : Type 1} → statement M
 call-spec =
