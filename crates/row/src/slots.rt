@@ -8,7 +8,8 @@ ghost use mathlib.Core.Path.{_≡_};
 ghost use Prim.Native.Nat.{_<_};
 ghost use lib.ListN.{set};
 ghost use Rattle.rules.specs.Limits.{frames, slots as slotCount};
-ghost use Rattle.row_theory.specs.Slots.{squeezed, squeezedFront, emptied, placesIn, count};
+ghost use Rattle.rules.specs.Lists.{times};
+ghost use Rattle.row_theory.specs.Slots.{squeezed, squeezedFront, emptied, placesIn};
 ghost use Rattle.row_theory.specs.Lending.{Indexed, Seatable, SeatedNow, Shiftable, Shifted};
 
 // What an empty slot reads, and the place of a frame that has no slot.
@@ -49,7 +50,7 @@ fn take_slot(slots: &mut PerSlot, places: &mut PerFrame, front: &mut usize, at: 
 
 // The frame's slot is emptied (rule W4).
 fn leave_slot(slots: &mut PerSlot, places: &mut PerFrame, frame: u8)
-    requires { ⌜ Indexed (now slots) (now places) × (frame < frames) × (count frame (now slots) ≡ 1) ⌝ }
+    requires { ⌜ Indexed (now slots) (now places) × (frame < frames) × (times frame (now slots) ≡ 1) ⌝ }
     ensures { λ r. ⌜ (now (slots .exit) ≡ emptied frame (now (slots .entry))) × (now (places .exit) ≡ placesIn (emptied frame (now (slots .entry)))) ⌝ }
 {
     let at = places[frame as usize];

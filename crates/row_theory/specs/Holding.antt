@@ -11,7 +11,7 @@ use borrow.Author.Tests.{eqb-false}
 use Rattle.rules.specs.Limits.{frames, slots, held}
 use Rattle.rules.specs.Cases.{by-cases}
 use Rattle.row_theory.specs.Slots.{framesIn, emptied, vacated, squeezedFront, roomySlots, roomyFront}
-use Rattle.row_theory.specs.Counting.{without}
+use Rattle.rules.specs.Lists.{without}
 use Rattle.row_theory.specs.RecentLaws.{fewer}
 use Rattle.row_theory.specs.SlotLaws.{
   Clear,

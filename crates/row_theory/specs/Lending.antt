@@ -5,7 +5,8 @@ use mathlib.Core.List.{List}
 use lib.ListN.{length, set}
 use Rattle.rules.specs.Limits.{frames, held}
 use Rattle.rules.specs.Limits
-use Rattle.row_theory.specs.Slots.{count, framesIn, placesIn, roomySlots, roomyFront, slotsThen, frontThen, examinedThen}
+use Rattle.rules.specs.Lists.{times}
+use Rattle.row_theory.specs.Slots.{framesIn, placesIn, roomySlots, roomyFront, slotsThen, frontThen, examinedThen}
 use Rattle.row_theory.specs.Holding.{Holding}
 use Rattle.row_theory.specs.StepLaws.{Ready}
 use Rattle.row_theory.specs.declared.Event.{Event}
@@ -14,7 +15,7 @@ use Rattle.row_theory.specs.declared.Event.the-variants.{Put, Touch, Sta
 -- slots with no frame twice, and their places
 pub record Indexed (slots places : List ℕ) : Type 0 where
   pub long : length slots ≡ Limits.slots
-  pub once : (frame : ℕ) → frame < frames → count frame slots ≤ 1
+  pub once : (frame : ℕ) → frame < frames → times frame slots ≤ 1
   pub index : places ≡ placesIn slots
 
 -- a frame that is not in the slots can take one
@@ -23,7 +24,7 @@ pub record Seatable (slots places : List ℕ) (front frame : ℕ) : Type 0 where
   pub small : frame < frames
   pub fits : Holding 0 slots front (framesIn slots)
   pub few : length (framesIn slots) ≤ held
-  pub out : count frame slots ≡ 0
+  pub out : times frame slots ≡ 0
 
 pub record SeatedNow (slots : List ℕ) (front frame examined : ℕ) (slots′ places′ : List ℕ) (front′ : ℕ) : Type 0 where
   pub answer : examined ≡ examinedThen Put front

@@ -6,8 +6,9 @@ use mathlib.Core.List.{List}
 use lib.ListN.{length, getD, set}
 use borrow.Author.Tests.{eq-eqb, ne-eqb}
 use Rattle.rules.specs.Limits.{frames, slots}
-use Rattle.row_theory.specs.Slots.{empty, emptied, squeezedFront, squeezed, roomySlots, roomyFront, examinedThen, slotOf, placesIn, count}
-use Rattle.row_theory.specs.SlotLaws.{Clear, framesIn-squeezed, count-framesIn, squeezedFront-rest, squeezed-length, squeezed-clear}
+use Rattle.rules.specs.Lists.{times}
+use Rattle.row_theory.specs.Slots.{empty, emptied, squeezedFront, squeezed, roomySlots, roomyFront, examinedThen, slotOf, placesIn}
+use Rattle.row_theory.specs.SlotLaws.{Clear, framesIn-squeezed, times-framesIn, squeezedFront-rest, squeezed-length, squeezed-clear}
 use Rattle.row_theory.specs.StateLaws.{heldBit-small}
 use Rattle.row_theory.specs.PlaceLaws.{placesIn-at, slotOf-inside, slotOf-there, emptied-place, places-out, places-in}
 use Rattle.row_theory.specs.Lending.{Indexed, Seatable, SeatedNow}
@@ -20,10 +21,10 @@ pub record Leaving (row places : List ℕ) (frame : ℕ) : Type 0 where
   pub whole : set row (getD places frame 0) empty ≡ emptied frame row
   pub index : set places frame slots ≡ placesIn (emptied frame row)
 
-pub leaving : (row places : List ℕ) (frame : ℕ) → Indexed row places → frame < frames → count frame row ≡ 1 → Leaving row places frame
+pub leaving : (row places : List ℕ) (frame : ℕ) → Indexed row places → frame < frames → times frame row ≡ 1 → Leaving row places frame
 leaving row places frame indexed small one =
     let at : getD places frame 0 ≡ slotOf frame row = ap (λ (l : List ℕ). getD l frame 0) (indexed .index) ∙ placesIn-at row frame small in
-    let some : 0 < count frame row = omega arith in
+    let some : 0 < times frame row = omega arith in
     let inside : slotOf frame row < length row = slotOf-inside frame row some in
     record {
       inside = omega (arith, indexed .long);
@@ -34,7 +35,7 @@ leaving row places frame indexed small one =
     }
 
 -- W2: a frame that takes the last of the clear slots below a front above 0
-taken : (row : List ℕ) (front frame : ℕ) → frame < frames → 0 < front → front ≤ length row → Clear front row → count frame row ≡ 0 → set (placesIn row) frame (front - 1) ≡ placesIn (set row (front - 1) frame)
+taken : (row : List ℕ) (front frame : ℕ) → frame < frames → 0 < front → front ≤ length row → Clear front row → times frame row ≡ 0 → set (placesIn row) frame (front - 1) ≡ placesIn (set row (front - 1) frame)
 taken row front frame small above inside clear out =
     let there : getD row (front - 1) empty ≡ empty = clear (front - 1) (omega arith) in
     sym (places-in row (front - 1) frame empty small (omega arith) (omega arith) out)
@@ -64,8 +65,8 @@ pub seated-squeezed : {row places : List ℕ} {front frame : ℕ} → Seatable r
 unfolding roomySlots roomyFront examinedThen
 seated-squeezed {row} {places} {front} {frame} ask none =
     let above : 0 < squeezedFront row = squeezed-inside ask .0 in
-    let out : count frame (squeezed row) ≡ 0 =
-    sym (count-framesIn frame (squeezed row) (ask .small)) ∙ ap (count frame) (framesIn-squeezed row) ∙ count-framesIn frame row (ask .small) ∙ ask .out in
+    let out : times frame (squeezed row) ≡ 0 =
+    sym (times-framesIn frame (squeezed row) (ask .small)) ∙ ap (times frame) (framesIn-squeezed row) ∙ times-framesIn frame row (ask .small) ∙ ask .out in
     record {
       answer = rw (eq-eqb front 0 none);
       row = rw (eq-eqb front 0 none);
@@ -78,7 +79,7 @@ pub indexed : {row : Row} {places : List ℕ} → Ordered row → places ≡ pla
 indexed {row} {places} order index =
     record {
       long = order .sound .fits .long;
-      once = λ x small. omega (arith, count-framesIn x (row .slots) small, order .sound .once x, heldBit-small (getD (row .states) x 0));
+      once = λ x small. omega (arith, times-framesIn x (row .slots) small, order .sound .once x, heldBit-small (getD (row .states) x 0));
       index = index;
     }
 

@@ -7,10 +7,11 @@ use mathlib.Core.List.{List, [], _∷_}
 use lib.Dec.{ltb, eqb}
 use borrow.Author.Tests.{eqb-true, eqb-false, lt-ltb, le-ltb, ltb-true, ltb-false}
 use Rattle.rules.specs.Limits.{frames}
-use Rattle.row_theory.specs.Slots.{empty, framesIn, passes, older, oldest, count}
+use Rattle.rules.specs.Lists.{times}
+use Rattle.row_theory.specs.Slots.{empty, framesIn, passes, older, oldest}
 use Rattle.row_theory.specs.Runs.{Earlier, Recent}
 use Rattle.rules.specs.Cases.{by-cases}
-use Rattle.row_theory.specs.Counting.{and-left, count-same, count-other}
+use Rattle.row_theory.specs.Counting.{and-left, times-cons, times-same, times-other}
 use Rattle.row_theory.specs.SlotLaws.{framesIn-frame, framesIn-empty}
 
 -- what passes is a frame
@@ -79,8 +80,8 @@ oldest-framesIn may (x ∷ row) =
     rw (framesIn-empty x row none) (oldest-framesIn may row ∙ sym (oldest-skip may x row (passes-empty may x none))))
 
 -- if the answer is no frame, no frame of the list passes
-pub oldest-none : (may : ℕ → Bool) (list : List ℕ) → frames ≤ oldest may list → (frame : ℕ) → 0 < count frame list → passes may frame ≡ true → ⊥
-oldest-none may [] h frame inside m = unfold count in omega arith
+pub oldest-none : (may : ℕ → Bool) (list : List ℕ) → frames ≤ oldest may list → (frame : ℕ) → 0 < times frame list → passes may frame ≡ true → ⊥
+oldest-none may [] h frame inside m = unfold times in omega arith
 oldest-none may (x ∷ list) h frame inside m =
     by-cases (ltb (oldest may list) frames)
     (λ e. let small : oldest may list < frames = ltb-true (oldest may list) frames e in
@@ -89,32 +90,32 @@ oldest-none may (x ∷ list) h frame inside m =
     by-cases (eqb x frame)
     (λ same. let there : passes may x ≡ true = rw (eqb-true x frame same) m in
     omega (arith, oldest-here may x list none there, passes-frame may x there))
-    (λ other. oldest-none may list none frame (omega (arith, count-other frame x list (eqb-false x frame other))) m))
+    (λ other. oldest-none may list none frame (omega (arith, times-other frame x list (eqb-false x frame other))) m))
 
 -- a frame of the list that passes, and whose moment is before every other's
 pub record EarliestPassing (may : ℕ → Bool) (list : List ℕ) (moment : ℕ → ℕ) (frame : ℕ) : Type 0 where
   pub bears : passes may frame ≡ true
-  pub there : 0 < count frame list
-  pub earliest : (other : ℕ) → (frame ≡ other → ⊥) → 0 < count other list → passes may other ≡ true → moment frame < moment other
+  pub there : 0 < times frame list
+  pub earliest : (other : ℕ) → (frame ≡ other → ⊥) → 0 < times other list → passes may other ≡ true → moment frame < moment other
 
 chosen-behind : (may : ℕ → Bool) (moment : ℕ → ℕ) (x : ℕ) (list : List ℕ) (frame : ℕ) → Earlier moment (moment x) list → EarliestPassing may list moment frame → EarliestPassing may (x ∷ list) moment frame
 chosen-behind may moment x list frame earlier chosen =
     record {
       bears = chosen .bears;
-      there = unfold count in omega (arith, chosen .there);
+      there = omega (arith, times-cons frame x list, chosen .there);
       earliest = λ other apart inside m. by-cases (eqb x other)
           (λ same. let e : x ≡ other = eqb-true x other same in rw (← e) (earlier frame (chosen .there)))
-          (λ ne. chosen .earliest other apart (omega (arith, count-other other x list (eqb-false x other ne))) m);
+          (λ ne. chosen .earliest other apart (omega (arith, times-other other x list (eqb-false x other ne))) m);
     }
 
 chosen-here : (may : ℕ → Bool) (moment : ℕ → ℕ) (x : ℕ) (list : List ℕ) → frames ≤ oldest may list → passes may x ≡ true → EarliestPassing may (x ∷ list) moment x
 chosen-here may moment x list none m =
     record {
       bears = m;
-      there = omega (arith, count-same x x list refl);
+      there = omega (arith, times-same x x list refl);
       earliest = λ other apart inside mo. by-cases (eqb x other)
           (λ same. absurd (apart (eqb-true x other same)))
-          (λ ne. absurd (oldest-none may list none other (omega (arith, count-other other x list (eqb-false x other ne))) mo));
+          (λ ne. absurd (oldest-none may list none other (omega (arith, times-other other x list (eqb-false x other ne))) mo));
     }
 
 -- W7: if the answer is a frame, its moment is the earliest of those that pass

@@ -10,8 +10,9 @@ use lib.ListN.{length, getD, set, take, drop, replicate, length-set, drop-of-len
 use lib.Seq.{drop-cons, take-all, set-set}
 use borrow.Author.Tests.{eq-eqb, ne-eqb}
 use Rattle.rules.specs.Limits.{frames, slots}
-use Rattle.row_theory.specs.Slots.{empty, framesIn, squeezedFront, squeezed, placesIn, count}
-use Rattle.row_theory.specs.Counting.{count-set, count-there}
+use Rattle.rules.specs.Lists.{times}
+use Rattle.row_theory.specs.Slots.{empty, framesIn, squeezedFront, squeezed, placesIn}
+use Rattle.row_theory.specs.Counting.{times-set, times-there}
 use Rattle.row_theory.specs.SlotLaws.{framesIn-frame, framesIn-empty, squeezedFront-rest}
 use Rattle.row_theory.specs.PlaceLaws.{places-out, places-in, places-same}
 use Rattle.row_theory.specs.Packing.{packing, pass-empty, pass-frame, old-slot, gap-open}
@@ -24,7 +25,7 @@ pub record Packing (row₀ row places : List ℕ) (to i : ℕ) : Type 0 where
   pub found : length (framesIn (drop i row₀)) + to ≡ slots
   pub long : length row ≡ slots
   pub index : places ≡ placesIn row
-  pub counts : (x : ℕ) → x < frames → count x row ≡ count x row₀
+  pub counts : (x : ℕ) → x < frames → times x row ≡ times x row₀
 
 pub packing-start : {row places : List ℕ} → length row ≡ slots → places ≡ placesIn row → Packing row row places slots slots
 unfolding packing framesIn
@@ -57,11 +58,11 @@ step-empty {row₀} {row} {places} {to} i long₀ pack none =
       long = length-set row i empty ∙ pack .long;
       index = pack .index ∙ sym (places-same row i 0 inside none);
       counts = λ x small.
-          omega (arith, rw (ne-eqb (getD row i 0) x (λ e. omega arith), ne-eqb empty x (λ e. omega arith)) at (count-set x row i empty 0 inside), pack .counts x small);
+          omega (arith, rw (ne-eqb (getD row i 0) x (λ e. omega arith), ne-eqb empty x (λ e. omega arith)) at (times-set x row i empty 0 inside), pack .counts x small);
     }
 
 -- a slot with a frame
-step-frame : {row₀ row places : List ℕ} {to : ℕ} (i frame : ℕ) → length row₀ ≡ slots → ((x : ℕ) → x < frames → count x row₀ ≤ 1) → Packing row₀ row places to (suc i) → getD row i 0 ≡ frame → frame < frames →
+step-frame : {row₀ row places : List ℕ} {to : ℕ} (i frame : ℕ) → length row₀ ≡ slots → ((x : ℕ) → x < frames → times x row₀ ≤ 1) → Packing row₀ row places to (suc i) → getD row i 0 ≡ frame → frame < frames →
     Packing row₀ (set (set row i empty) (to - 1) frame) (set places frame (to - 1)) (to - 1) i
 step-frame {row₀} {row} {places} {to} i frame long₀ once₀ pack held small =
     let there : i < length row₀ = omega (arith, pack .below, pack .inside) in
@@ -69,11 +70,11 @@ step-frame {row₀} {row} {places} {to} i frame long₀ once₀ pack held small 
     let old : getD row i 0 ≡ getD row₀ i 0 = ap (λ (l : List ℕ). getD l i 0) (pack .shape) ∙ old-slot row₀ i (to - suc i) there in
     let held₀ : getD row₀ i 0 ≡ frame = sym old ∙ held in
     let last : i + (to - suc i) ≡ to - 1 = omega (arith, pack .below) in
-    let one : count frame row ≡ 1 = omega (arith, count-there frame row i 0 inside held, pack .counts frame small, once₀ frame small) in
+    let one : times frame row ≡ 1 = omega (arith, times-there frame row i 0 inside held, pack .counts frame small, once₀ frame small) in
     let hole : getD (set row i empty) (to - 1) 0 ≡ empty =
     rw (← last) (ap (λ (l : List ℕ). getD (set l i empty) (i + (to - suc i)) 0) (pack .shape) ∙ gap-open row₀ i (to - suc i) there) in
-    let gone : count frame (set row i empty) ≡ 0 =
-    omega (arith, rw (eq-eqb (getD row i 0) frame held, ne-eqb empty frame (λ e. omega arith)) at (count-set frame row i empty 0 inside)) in
+    let gone : times frame (set row i empty) ≡ 0 =
+    omega (arith, rw (eq-eqb (getD row i 0) frame held, ne-eqb empty frame (λ e. omega arith)) at (times-set frame row i empty 0 inside)) in
     let room : to - 1 < length (set row i empty) = rw (length-set row i empty) (omega (arith, pack .below, pack .inside, pack .long)) in
     record {
       below = omega (arith, pack .below);
@@ -91,13 +92,13 @@ step-frame {row₀} {row} {places} {to} i frame long₀ once₀ pack held small 
           ap (λ (l : List ℕ). set l frame (to - 1)) (places-out row i frame 0 small inside held one) ∙
           set-set (placesIn row) frame (length row) (to - 1) ∙
           ap (λ (l : List ℕ). set l frame (to - 1)) (sym (pack .index)));
-      counts = λ x low. counts-kept x low (count-set x row i empty 0 inside) (count-set x (set row i empty) (to - 1) frame 0 room) held hole (pack .counts x low);
+      counts = λ x low. counts-kept x low (times-set x row i empty 0 inside) (times-set x (set row i empty) (to - 1) frame 0 room) held hole (pack .counts x low);
     }
   where
     counts-kept :
-        (x : ℕ) → x < frames → count x (set row i empty) + cond (eqb (getD row i 0) x) 1 0 ≡ count x row + cond (eqb empty x) 1 0 →
-        count x (set (set row i empty) (to - 1) frame) + cond (eqb (getD (set row i empty) (to - 1) 0) x) 1 0 ≡ count x (set row i empty) + cond (eqb frame x) 1 0 →
-        getD row i 0 ≡ frame → getD (set row i empty) (to - 1) 0 ≡ empty → count x row ≡ count x row₀ → count x (set (set row i empty) (to - 1) frame) ≡ count x row₀
+        (x : ℕ) → x < frames → times x (set row i empty) + cond (eqb (getD row i 0) x) 1 0 ≡ times x row + cond (eqb empty x) 1 0 →
+        times x (set (set row i empty) (to - 1) frame) + cond (eqb (getD (set row i empty) (to - 1) 0) x) 1 0 ≡ times x (set row i empty) + cond (eqb frame x) 1 0 →
+        getD row i 0 ≡ frame → getD (set row i empty) (to - 1) 0 ≡ empty → times x row ≡ times x row₀ → times x (set (set row i empty) (to - 1) frame) ≡ times x row₀
     counts-kept x low first second held hole same =
         omega (arith, rw (held, ne-eqb empty x (λ e. omega arith)) at first, rw (hole, ne-eqb empty x (λ e. omega arith)) at second)
 
@@ -109,7 +110,7 @@ pub pack-empty : {row₀ row places : List ℕ} {to j : ℕ} → length row₀ �
 pack-empty {row₀} {row} {places} {to} {j} long₀ pack some none =
     step-empty (j - 1) long₀ (subst (λ (n : ℕ). Packing row₀ row places to n) (sym (before j some)) pack) none
 
-pub pack-frame : {row₀ row places : List ℕ} {to j : ℕ} → length row₀ ≡ slots → ((x : ℕ) → x < frames → count x row₀ ≤ 1) → Packing row₀ row places to j → 0 < j → getD row (j - 1) 0 < frames →
+pub pack-frame : {row₀ row places : List ℕ} {to j : ℕ} → length row₀ ≡ slots → ((x : ℕ) → x < frames → times x row₀ ≤ 1) → Packing row₀ row places to j → 0 < j → getD row (j - 1) 0 < frames →
     Packing row₀ (set (set row (j - 1) empty) (to - 1) (getD row (j - 1) 0)) (set places (getD row (j - 1) 0) (to - 1)) (to - 1) (j - 1)
 pack-frame {row₀} {row} {places} {to} {j} long₀ once₀ pack some small =
     step-frame (j - 1) (getD row (j - 1) 0) long₀ once₀ (subst (λ (n : ℕ). Packing row₀ row places to n) (sym (before j some)) pack) refl small

@@ -5,7 +5,8 @@ use mathlib.Core.List.{List, [], _∷_}
 use lib.ListN.{getD}
 use Rattle.rules.specs.Limits.{frames, slots}
 use Rattle.row_theory.specs.States.{Call, tableAt, heldBit, heldIn, verdictOf, refusalOf, accepts, statesThen}
-use Rattle.row_theory.specs.Slots.{empty, count, framesIn, emptied, squeezedFront, squeezed, roomySlots, roomyFront, vacated, slotsThen, frontThen, examinedThen, passes, older, oldest}
+use Rattle.rules.specs.Lists.{times}
+use Rattle.row_theory.specs.Slots.{empty, framesIn, emptied, squeezedFront, squeezed, roomySlots, roomyFront, vacated, slotsThen, frontThen, examinedThen, passes, older, oldest}
 use Rattle.row_theory.specs.Row.{Row, emptyRow, moved, after, replyOf, examinedOf, idleAmong, victimAmong, victimOf}
 use Rattle.row_theory.specs.declared.Reply.{Reply}
 use Rattle.row_theory.specs.declared.Victim.{Victim}
@@ -27,7 +28,7 @@ pub record Reached (row : Row) : Type 0 where
 
 -- W1, W7: every frame of a list has its moment before a bound
 abbrev pub Earlier : (ℕ → ℕ) → ℕ → List ℕ → Type 0
-Earlier moment bound list = (frame : ℕ) → 0 < count frame list → moment frame < bound
+Earlier moment bound list = (frame : ℕ) → 0 < times frame list → moment frame < bound
 
 -- W1: most recent first: along the list each moment comes before those that stand ahead of it
 unfoldable pub Recent : (ℕ → ℕ) → List ℕ → Type 0

@@ -4,9 +4,10 @@ use native.Mathlib.Omega.{arith}
 use mathlib.Core.Path.{_≡_, refl, sym, _∙_, ap, subst, subst₂}
 use mathlib.Core.List.{List}
 use Rattle.rules.specs.Limits.{frames}
-use Rattle.row_theory.specs.Slots.{framesIn, emptied, vacated, slotsThen, frontThen, examinedThen, placesIn, count}
-use Rattle.row_theory.specs.Counting.{without, count-without, count-without-le, length-without-le}
-use Rattle.row_theory.specs.SlotLaws.{framesIn-emptied, count-framesIn, emptied-length}
+use Rattle.rules.specs.Lists.{times, without}
+use Rattle.row_theory.specs.Slots.{framesIn, emptied, vacated, slotsThen, frontThen, examinedThen, placesIn}
+use Rattle.row_theory.specs.Counting.{times-without, times-without-le, length-without-le}
+use Rattle.row_theory.specs.SlotLaws.{framesIn-emptied, times-framesIn, emptied-length}
 use Rattle.row_theory.specs.Holding.{emptied-holding, refits}
 use Rattle.row_theory.specs.StateLaws.{bitBefore}
 use Rattle.row_theory.specs.Lending.{Seatable, SeatedNow, Shiftable, Shifted}
@@ -14,8 +15,8 @@ use Rattle.row_theory.specs.declared.Event.{Event}
 use Rattle.row_theory.specs.declared.Event.the-variants.{Put, Touch, Start, End, Drop}
 
 -- the frame of an accepted call stands in the slots as its event says
-there : {event : Event} {row places : List ℕ} {front frame : ℕ} → Shiftable event row places front frame → count frame row ≡ bitBefore event
-there {event} {row} {places} {front} {frame} ask = sym (count-framesIn frame row (ask .ready .small)) ∙ ask .ready .once
+there : {event : Event} {row places : List ℕ} {front frame : ℕ} → Shiftable event row places front frame → times frame row ≡ bitBefore event
+there {event} {row} {places} {front} {frame} ask = sym (times-framesIn frame row (ask .ready .small)) ∙ ask .ready .once
 
 pub put-seatable : {row places : List ℕ} {front frame : ℕ} → Shiftable Put row places front frame → Seatable row places front frame
 put-seatable ask =
@@ -27,24 +28,24 @@ put-seatable ask =
       out = there ask;
     }
 
-pub touch-once : {row places : List ℕ} {front frame : ℕ} → Shiftable Touch row places front frame → count frame row ≡ 1
+pub touch-once : {row places : List ℕ} {front frame : ℕ} → Shiftable Touch row places front frame → times frame row ≡ 1
 touch-once ask = there ask
 
-pub drop-once : {row places : List ℕ} {front frame : ℕ} → Shiftable Drop row places front frame → count frame row ≡ 1
+pub drop-once : {row places : List ℕ} {front frame : ℕ} → Shiftable Drop row places front frame → times frame row ≡ 1
 drop-once ask = there ask
 
 -- W4: once its slot is emptied, a touched frame can take one as a put frame does
 pub touch-seatable : {row places : List ℕ} {front frame : ℕ} → Shiftable Touch row places front frame → Seatable (emptied frame row) (placesIn (emptied frame row)) front frame
 touch-seatable {row} {places} {front} {frame} ask =
     let small = ask .ready .small in
-    let counted : (x : ℕ) → x < frames → count x (emptied frame row) ≡ count x (without frame (framesIn row)) =
-    λ x low. sym (count-framesIn x (emptied frame row) low) ∙ ap (count x) (framesIn-emptied frame row small) in
-    let gone : count frame (emptied frame row) ≡ 0 = omega (arith, counted frame small, count-without frame (framesIn row), ask .ready .once) in
+    let counted : (x : ℕ) → x < frames → times x (emptied frame row) ≡ times x (without frame (framesIn row)) =
+    λ x low. sym (times-framesIn x (emptied frame row) low) ∙ ap (times x) (framesIn-emptied frame row small) in
+    let gone : times frame (emptied frame row) ≡ 0 = omega (arith, counted frame small, times-without frame (framesIn row), ask .ready .once) in
     record {
       indexed =
           record {
             long = emptied-length frame row ∙ ask .indexed .long;
-            once = λ x low. omega (arith, counted x low, count-without-le frame x (framesIn row), count-framesIn x row low, ask .indexed .once x low);
+            once = λ x low. omega (arith, counted x low, times-without-le frame x (framesIn row), times-framesIn x row low, ask .indexed .once x low);
             index = refl;
           };
       small = small;

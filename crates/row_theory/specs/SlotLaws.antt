@@ -9,9 +9,10 @@ use lib.ListN.{length, getD, set, replicate, length-append, length-replicate}
 use lib.Seq.{getD-set-other}
 use borrow.Author.Tests.{ne-eqb, eqb-true, lt-ltb, le-ltb, ltb-true, ltb-false}
 use Rattle.rules.specs.Limits.{frames}
-use Rattle.row_theory.specs.Slots.{empty, framesIn, emptied, squeezedFront, squeezed, count}
+use Rattle.rules.specs.Lists.{times, without}
+use Rattle.row_theory.specs.Slots.{empty, framesIn, emptied, squeezedFront, squeezed}
 use Rattle.rules.specs.Cases.{by-cases}
-use Rattle.row_theory.specs.Counting.{without, without-same}
+use Rattle.row_theory.specs.Counting.{times-cons, without-same}
 
 -- W1: all slots below a mark are empty
 abbrev pub Clear : ℕ → List ℕ → Type 0
@@ -37,26 +38,26 @@ unfolding squeezedFront
 squeezedFront-rest row = omega (arith, framesIn-length row)
 
 -- a frame stands in the slots as often as among their frames
-pub count-framesIn : (frame : ℕ) (row : List ℕ) → frame < frames → count frame (framesIn row) ≡ count frame row
-unfolding count framesIn
-count-framesIn frame [] h = refl
-count-framesIn frame (x ∷ row) h =
+pub times-framesIn : (frame : ℕ) (row : List ℕ) → frame < frames → times frame (framesIn row) ≡ times frame row
+unfolding times framesIn
+times-framesIn frame [] h = refl
+times-framesIn frame (x ∷ row) h =
     by-cases (ltb x frames)
-    (λ e. rw e (omega (arith, count-framesIn frame row h)))
+    (λ e. rw e (omega (arith, times-cons frame x row, times-cons frame x (framesIn row), times-framesIn frame row h)))
     (λ e. let big : frames ≤ x = ltb-false x frames e in
     let other : x ≡ frame → ⊥ = λ same. omega arith in
-    rw (e, ne-eqb x frame other) (omega (arith, count-framesIn frame row h)))
+    rw (e, ne-eqb x frame other) (omega (arith, times-framesIn frame row h)))
 
 -- what is no frame's number is not among the frames
-pub count-past : (x : ℕ) (row : List ℕ) → frames ≤ x → count x (framesIn row) ≡ 0
-unfolding count framesIn
-count-past x [] h = refl
-count-past x (y ∷ row) h =
+pub times-past : (x : ℕ) (row : List ℕ) → frames ≤ x → times x (framesIn row) ≡ 0
+unfolding times framesIn
+times-past x [] h = refl
+times-past x (y ∷ row) h =
     by-cases (ltb y frames)
     (λ e. let small : y < frames = ltb-true y frames e in
     let other : y ≡ x → ⊥ = λ same. omega arith in
-    rw (e, ne-eqb y x other) (omega (arith, count-past x row h)))
-    (λ e. rw e (count-past x row h))
+    rw (e, ne-eqb y x other) (omega (arith, times-past x row h)))
+    (λ e. rw e (times-past x row h))
 
 -- W4: emptying a frame's slot takes the frame out
 pub framesIn-emptied : (frame : ℕ) (row : List ℕ) → frame < frames → framesIn (emptied frame row) ≡ without frame (framesIn row)

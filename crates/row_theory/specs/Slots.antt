@@ -18,11 +18,6 @@ unfoldable pub framesIn : List ℕ → List ℕ
 framesIn [] = []
 framesIn (x ∷ row) = cond (ltb x frames) (x ∷ framesIn row) (framesIn row)
 
--- how often a number stands in a list
-unfoldable pub count : ℕ → List ℕ → ℕ
-count x [] = 0
-count x (y ∷ list) = cond (eqb y x) 1 0 + count x list
-
 -- W4: the frame's slot emptied
 unfoldable pub emptied : ℕ → List ℕ → List ℕ
 emptied frame [] = []

@@ -11,14 +11,15 @@ use lib.Seq.{getD-set-same, getD-set-other}
 use borrow.Author.Tests.{eqb-true, eqb-false}
 use Rattle.rules.specs.Limits.{frames, slots, held}
 use Rattle.row_theory.specs.States.{Call, absent, tableAt, stateOf, heldBit, heldIn, accepts, statesThen, freshStates}
-use Rattle.row_theory.specs.Slots.{empty, framesIn, count}
+use Rattle.rules.specs.Lists.{times}
+use Rattle.row_theory.specs.Slots.{empty, framesIn}
 use Rattle.row_theory.specs.Row.{Row, emptyRow, moved, after}
 use Rattle.row_theory.specs.History.{statesAfter, momentAfter}
 use Rattle.row_theory.specs.Runs.{rowAfter, Recent}
 use Rattle.rules.specs.Cases.{by-cases}
 use Rattle.row_theory.specs.StateLaws.{accepted, bitBefore}
 use Rattle.row_theory.specs.Holding.{Holding, refits}
-use Rattle.row_theory.specs.RecentLaws.{recentThen, count-then, count-then-other, length-then, Later, recent-then, recent-same}
+use Rattle.row_theory.specs.RecentLaws.{recentThen, times-then, times-then-other, length-then, Later, recent-then, recent-same}
 use Rattle.row_theory.specs.StepLaws.{Ready, slot-step}
 use Rattle.row_theory.specs.GoodStates.{GoodStates, good-after, states-accepted, states-refused, call-effect, held-then}
 use Rattle.row_theory.specs.Moments.{later-accepted, moment-refused}
@@ -28,7 +29,7 @@ pub record Sound (row : Row) (states : List ℕ) (moment : ℕ → ℕ) : Type 0
   pub sameStates : row .states ≡ states
   pub number : row .held ≡ heldIn states
   pub fits : Holding 0 (row .slots) (row .front) (framesIn (row .slots))
-  pub once : (frame : ℕ) → count frame (framesIn (row .slots)) ≡ heldBit (stateOf states frame)
+  pub once : (frame : ℕ) → times frame (framesIn (row .slots)) ≡ heldBit (stateOf states frame)
   pub many : length (framesIn (row .slots)) ≡ heldIn states
   pub order : Recent moment (framesIn (row .slots))
 
@@ -45,25 +46,25 @@ ready {row} {states} call sound good e =
 
 -- the held bit of every frame after an accepted call
 once-then : (states : List ℕ) (call : Call) (list : List ℕ) → GoodStates states → accepts states call ≡ true →
-    ((frame : ℕ) → count frame list ≡ heldBit (stateOf states frame)) →
-    (frame : ℕ) → count frame (recentThen (call .event) (call .frame) list) ≡ heldBit (stateOf (statesThen states call) frame)
+    ((frame : ℕ) → times frame list ≡ heldBit (stateOf states frame)) →
+    (frame : ℕ) → times frame (recentThen (call .event) (call .frame) list) ≡ heldBit (stateOf (statesThen states call) frame)
 once-then states call list good e once frame =
     let fx = call-effect states call good e in
     let inside : call .frame < length states = omega (arith, accepted states call e .small, good .long) in
     rw (states-accepted states call e)
     (by-cases (eqb (call .frame) frame)
     (λ same. rw (← eqb-true (call .frame) frame same, getD-set-same states (call .frame) (tableAt (stateOf states (call .frame)) (call .event)) absent inside)
-    (count-then (call .event) (call .frame) list (once (call .frame) ∙ fx .was) ∙ sym (fx .becomes)))
+    (times-then (call .event) (call .frame) list (once (call .frame) ∙ fx .was) ∙ sym (fx .becomes)))
     (λ other. let ne : call .frame ≡ frame → ⊥ = eqb-false (call .frame) frame other in
     rw (getD-set-other states (call .frame) frame (tableAt (stateOf states (call .frame)) (call .event)) absent (λ back. ne (sym back)))
-    (count-then-other (call .event) (call .frame) frame list ne ∙ once frame)))
+    (times-then-other (call .event) (call .frame) frame list ne ∙ once frame)))
 
 pub sound-accepted : {row : Row} {states : List ℕ} {m : ℕ → ℕ} (n : ℕ → ℕ) (call : Call) → Sound row states m → GoodStates states → accepts states call ≡ true →
     Later (call .event) (call .frame) m n → Sound (moved row call) (statesThen states call) n
 unfolding moved
 sound-accepted {row} {states} {m} n call sound good e later =
     let step = slot-step (call .event) (row .slots) (row .front) (call .frame) (ready call sound good e) in
-    let before : count (call .frame) (framesIn (row .slots)) ≡ bitBefore (call .event) = ready call sound good e .once in
+    let before : times (call .frame) (framesIn (row .slots)) ≡ bitBefore (call .event) = ready call sound good e .once in
     record {
       sameStates = rw (sound .sameStates);
       number = rw (sound .sameStates);
@@ -106,7 +107,7 @@ once-fresh (suc n) zero = refl
 once-fresh (suc n) (suc frame) = once-fresh n frame
 
 sound-fresh : Sound emptyRow freshStates (momentAfter [])
-unfolding emptyRow framesIn count Recent
+unfolding emptyRow framesIn times Recent
 sound-fresh =
     record {
       sameStates = refl;

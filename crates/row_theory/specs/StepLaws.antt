@@ -10,7 +10,8 @@ use borrow.Author.Tests.{eqb-false}
 use Rattle.rules.specs.Limits.{frames, slots, held}
 use Rattle.rules.specs.Cases.{by-cases}
 use Rattle.row_theory.specs.States.{moves}
-use Rattle.row_theory.specs.Slots.{framesIn, squeezedFront, vacated, roomyFront, slotsThen, frontThen, count}
+use Rattle.rules.specs.Lists.{times}
+use Rattle.row_theory.specs.Slots.{framesIn, squeezedFront, vacated, roomyFront, slotsThen, frontThen}
 use Rattle.row_theory.specs.StateLaws.{bitBefore}
 use Rattle.row_theory.specs.SlotLaws.{squeezedFront-rest}
 use Rattle.row_theory.specs.RecentLaws.{fewer, recentThen, length-fewer}
@@ -22,7 +23,7 @@ pub record Ready (event : Event) (row : List ℕ) (front frame : ℕ) : Type 0 w
   pub small : frame < frames
   pub fits : Holding 0 row front (framesIn row)
   pub few : length (framesIn row) ≤ held
-  pub once : count frame (framesIn row) ≡ bitBefore event
+  pub once : times frame (framesIn row) ≡ bitBefore event
 
 -- the slots that are surely free below the front after it
 unfoldable pub spareThen : Event → ℕ → ℕ

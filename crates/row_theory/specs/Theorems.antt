@@ -11,13 +11,14 @@ use borrow.Author.Tests.{eqb-true, eqb-false, ltb-true, ltb-false}
 use Rattle.rules.specs.Limits.{frames, slots, held}
 use Rattle.rules.specs.Refusals.{badFrame, rowFull, nothingHeld, allBusy}
 use Rattle.row_theory.specs.States.{Call, absent, busy, stateTable, tableAt, stateOf, heldBit, heldIn, accepts, statesThen}
-use Rattle.row_theory.specs.Slots.{framesIn, count}
+use Rattle.rules.specs.Lists.{times}
+use Rattle.row_theory.specs.Slots.{framesIn}
 use Rattle.row_theory.specs.Row.{replyOf, examinedOf, anyFrame, victimAmong, victimOf}
 use Rattle.row_theory.specs.History.{statesAfter, momentAfter, movesAfter, Victim-is, Victim-says}
 use Rattle.row_theory.specs.Runs.{rowAfter, examinedAfter, Recent, PackedRow, rowFrom}
 use Rattle.rules.specs.Cases.{by-cases}
 use Rattle.row_theory.specs.StateLaws.{accepted, busy-stays}
-use Rattle.row_theory.specs.SlotLaws.{Clear, count-framesIn}
+use Rattle.row_theory.specs.SlotLaws.{Clear, times-framesIn}
 use Rattle.row_theory.specs.GoodStates.{good-after, states-accepted, states-refused}
 use Rattle.row_theory.specs.SoundRow.{sound-after}
 use Rattle.row_theory.specs.Bound.{paid-after}
@@ -37,8 +38,8 @@ pub other-numbers : badFrame ∷ rowFull ∷ nothingHeld ∷ allBusy ∷ [] ≡ 
 other-numbers = refl
 
 -- W1: the slots hold exactly the held frames, each once
-pub slots-hold : (history : List Call) (frame : ℕ) → frame < frames → count frame (rowAfter history .slots) ≡ heldBit (stateOf (statesAfter history) frame)
-slots-hold history frame h = sym (count-framesIn frame (rowAfter history .slots) h) ∙ sound-after history .once frame
+pub slots-hold : (history : List Call) (frame : ℕ) → frame < frames → times frame (rowAfter history .slots) ≡ heldBit (stateOf (statesAfter history) frame)
+slots-hold history frame h = sym (times-framesIn frame (rowAfter history .slots) h) ∙ sound-after history .once frame
 
 -- W1: most recent first
 pub slots-order : (history : List Call) → Recent (momentAfter history) (framesIn (rowAfter history .slots))

@@ -9,18 +9,19 @@ use borrow.Author.Tests.{eqb-true, lt-ltb, ltb-true, ltb-false}
 use Rattle.rules.specs.Limits.{frames}
 use Rattle.rules.specs.Cases.{by-cases}
 use Rattle.row_theory.specs.States.{Call, idle, stateOf, heldBit}
-use Rattle.row_theory.specs.Slots.{framesIn, passes, oldest, count}
+use Rattle.rules.specs.Lists.{times}
+use Rattle.row_theory.specs.Slots.{framesIn, passes, oldest}
 use Rattle.row_theory.specs.Row.{idleAmong}
 use Rattle.row_theory.specs.History.{statesAfter, momentAfter, MayGo, Victim-is}
 use Rattle.row_theory.specs.Runs.{rowAfter}
 use Rattle.row_theory.specs.Counting.{and-left, and-right}
-use Rattle.row_theory.specs.SlotLaws.{count-past}
+use Rattle.row_theory.specs.SlotLaws.{times-past}
 use Rattle.row_theory.specs.SoundRow.{sound-after}
 use Rattle.row_theory.specs.Oldest.{EarliestPassing, oldest-framesIn, oldest-none, oldest-chosen}
 
 -- an idle frame stands in the slots
 idle-there : (history : List Call) (frame : ℕ) → stateOf (statesAfter history) frame ≡ idle →
-    0 < count frame (framesIn (rowAfter history .slots))
+    0 < times frame (framesIn (rowAfter history .slots))
 idle-there history frame isIdle =
     let one : heldBit (stateOf (statesAfter history) frame) ≡ 1 = unfold heldBit in rw isIdle in
     omega (arith, sound-after history .once frame)
@@ -30,7 +31,7 @@ idle-small : (history : List Call) (frame : ℕ) → stateOf (statesAfter histor
 idle-small history frame isIdle =
     by-cases (ltb frame frames) (ltb-true frame frames)
     (λ past. let there = idle-there history frame isIdle in
-    absurd (omega (arith, count-past frame (rowAfter history .slots) (ltb-false frame frames past))))
+    absurd (omega (arith, times-past frame (rowAfter history .slots) (ltb-false frame frames past))))
 
 -- the frames that may go are those that the scan of the slots lets pass
 goes-passes : (history : List Call) (may : ℕ → Bool) (frame : ℕ) → MayGo history may frame →
