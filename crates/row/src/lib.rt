@@ -22,7 +22,7 @@ use slots::shift;
 use table::ABSENT;
 use table::BUSY;
 use table::IDLE;
-use table::recount;
+use table::held_bit;
 use table::verdict;
 ghost use mathlib.Core.Path.{_≡_};
 ghost use Rattle.row_theory.specs.Runs.{Reached};
@@ -55,8 +55,9 @@ pub fn call(
         });
     }
     let examined = shift(slots, places, front, event, f);
+    let was = states[f as usize];
     states[f as usize] = then;
-    *held = recount(event, n);
+    *held = n + held_bit(then) - held_bit(was);
     Reply::Done(examined)
 }
 

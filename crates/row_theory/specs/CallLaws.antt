@@ -1,16 +1,16 @@
 -- A frame call on lent memory, from its verdict to its promise.
-use Prim.Native.Nat.{ℕ, _<_, _≤_}
+use Prim.Native.Nat.{ℕ, suc, _+_, _<_, _≤_}
 use native.Mathlib.Omega.{arith}
 use mathlib.Core.Path.{_≡_, sym, _∙_, ap, subst}
 use mathlib.Core.List.{List}
-use lib.ListN.{getD, set}
+use lib.ListN.{length, getD, set}
 use Rattle.rules.specs.Limits.{slots}
-use Rattle.row_theory.specs.States.{busy, heldIn, verdictOf}
-use Rattle.row_theory.specs.StateLaws.{bitLater}
+use Rattle.row_theory.specs.States.{absent, busy, stateOf, heldBit, heldIn, verdictOf}
+use Rattle.row_theory.specs.StateLaws.{heldBit-small, heldIn-set}
 use Rattle.row_theory.specs.Promise.{Memory, memory, rowIn, Stands, asked, Answered}
 use Rattle.row_theory.specs.PromiseLaws.{ordered, answered}
 use Rattle.row_theory.specs.VerdictLaws.{refused-verdict, Accepting, accepted-verdict}
-use Rattle.row_theory.specs.Lending.{heldThen, Shiftable, Shifted}
+use Rattle.row_theory.specs.Lending.{Shiftable, Shifted}
 use Rattle.row_theory.specs.LendingLaws.{indexed}
 use Rattle.row_theory.specs.declared.Event.{Event}
 use Rattle.row_theory.specs.declared.Reply.the-variants.{Done, Refused}
@@ -39,16 +39,24 @@ module _ {m : Memory} (event : Event) (frame : ℕ) {next : ℕ} (stands : Stand
   pub call-shiftable : Shiftable event (m .slots) (m .places) (m .front) frame
   call-shiftable = record { indexed = indexed (ordered (stands .reached)) (stands .index); ready = accepting .finds }
 
-  pub call-countable : (m .held ≤ slots) × (bitLater event ≡ 0 → 0 < m .held)
+  -- the number held can be told by the bits of the frame's state before and after
+  pub call-countable : (m .held + heldBit next ≤ suc slots) × (heldBit (stateOf (m .states) frame) ≤ m .held)
   call-countable =
       let order = ordered (stands .reached) in
-      (omega (arith, order .sound .number, order .good .few), accepting .some)
+      let inside : frame < length (m .states) = omega (arith, call-shiftable .ready .small, order .good .long) in
+      let out = heldIn-set (m .states) frame absent inside in
+      (omega (arith, order .sound .number, order .good .few, heldBit-small next), unfold heldBit in omega (arith, order .sound .number, out))
 
   -- an accepted call whose steps left what they should keeps the promise
   pub call-done : {examined : ℕ} {slots′ places′ : List ℕ} {front′ held′ : ℕ} →
-      Shifted event (m .slots) (m .front) frame examined slots′ places′ front′ → held′ ≡ heldThen event (m .held) →
+      Shifted event (m .slots) (m .front) frame examined slots′ places′ front′ →
+      held′ + heldBit (stateOf (m .states) frame) ≡ m .held + heldBit next →
       Answered m (asked event frame) (Done examined) (memory slots′ places′ (set (m .states) frame next) front′ held′)
-  call-done shifted counted =
+  call-done {held′ = held′} shifted bits =
+      let order = ordered (stands .reached) in
+      let inside : frame < length (m .states) = omega (arith, call-shiftable .ready .small, order .good .long) in
+      let counted : held′ ≡ heldIn (set (m .states) frame next) =
+      omega (arith, heldIn-set (m .states) frame next inside, order .sound .number) in
       answered (stands .reached) (ap Done (shifted .answer) ∙ sym (accepting .reply))
       ((λ i. record { slots = shifted .row i; states = set (m .states) frame next; front = shifted .mark i; held = counted i }) ∙
       sym (accepting .leaves))

@@ -1,5 +1,5 @@
--- What the steps of a frame call ask of the slots, the places and the number held, and what they leave (docs/RULES.md, W2 to W5).
-use Prim.Native.Nat.{ℕ, _+_, _-_, _<_, _≤_}
+-- What the steps of a frame call ask of the slots and the places, and what they leave (docs/RULES.md, W2 to W5).
+use Prim.Native.Nat.{ℕ, _-_, _<_, _≤_}
 use mathlib.Core.Path.{_≡_}
 use mathlib.Core.List.{List}
 use lib.ListN.{length, set}
@@ -10,7 +10,7 @@ use Rattle.row_theory.specs.Slots.{framesIn, placesIn, roomySlots, roomy
 use Rattle.row_theory.specs.Holding.{Holding}
 use Rattle.row_theory.specs.StepLaws.{Ready}
 use Rattle.row_theory.specs.declared.Event.{Event}
-use Rattle.row_theory.specs.declared.Event.the-variants.{Put, Touch, Start, End, Drop}
+use Rattle.row_theory.specs.declared.Event.the-variants.{Put}
 
 -- slots with no frame twice, and their places
 pub record Indexed (slots places : List ℕ) : Type 0 where
@@ -42,11 +42,3 @@ pub record Shifted (event : Event) (slots : List ℕ) (front frame examined : �
   pub row : slots′ ≡ slotsThen event slots front frame
   pub index : places′ ≡ placesIn slots′
   pub mark : front′ ≡ frontThen event slots front frame
-
--- the number held after an accepted call
-abbrev pub heldThen : Event → ℕ → ℕ
-heldThen Put n = n + 1
-heldThen Touch n = n
-heldThen Start n = n
-heldThen End n = n
-heldThen Drop n = n - 1

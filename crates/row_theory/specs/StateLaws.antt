@@ -65,6 +65,18 @@ effect Start = each-state (EffectAt Start) (λ h. omega arith) (λ h. record { w
 effect End = each-state (EffectAt End) (λ h. omega arith) (λ h. omega arith) (λ h. record { was = refl; becomes = refl })
 effect Drop = each-state (EffectAt Drop) (λ h. omega arith) (λ h. record { was = refl; becomes = refl }) (λ h. omega arith)
 
+-- of an absent frame the table lets only a put through, and a put of no other
+abbrev PutAt : Event → ℕ → Type 0
+PutAt event s = tableAt s event ≤ busy → isPut event ≡ eqb s absent
+
+pub put-absent : (event : Event) (state : ℕ) → state ≤ busy → tableAt state event ≤ busy → isPut event ≡ eqb state absent
+unfolding tableAt
+put-absent Put = each-state (PutAt Put) (λ h. refl) (λ h. absurd (omega arith)) (λ h. absurd (omega arith))
+put-absent Touch = each-state (PutAt Touch) (λ h. absurd (omega arith)) (λ h. refl) (λ h. refl)
+put-absent Start = each-state (PutAt Start) (λ h. absurd (omega arith)) (λ h. refl) (λ h. refl)
+put-absent End = each-state (PutAt End) (λ h. absurd (omega arith)) (λ h. refl) (λ h. refl)
+put-absent Drop = each-state (PutAt Drop) (λ h. absurd (omega arith)) (λ h. refl) (λ h. refl)
+
 -- D1: no event makes a busy frame absent
 pub busy-stays : (event : Event) → tableAt busy event ≡ absent → ⊥
 unfolding tableAt

@@ -1,4 +1,5 @@
 -- `row::call` meets its contract: the verdict, then the steps it allows, each by the law for it. Assumes nothing.
+use native.Mathlib.Omega.{arith}
 use Rattle.row_theory.specs.CallLaws.{known-states, call-refused, call-shiftable, call-countable, call-done}
 use borrow.Author.Needs.{needs}
 use Rattle.row.proofs.call.Statement.{statement}
@@ -18,27 +19,49 @@ shift-requires c κs =
     let judged = allowed .before in
     call-shiftable _ _ (judged .before .before .before .pre) (judged .verdict .ensures) (allowed .if1 .left)
 
+cast-was : tie.Need-cast-was
+cast-was c = search needs
+
+element-copy-out-was : tie.Need-element-copy-out-was
+element-copy-out-was c =
+    let allowed = c .before .before .before .before in
+    let judged = allowed .before in
+    call-shiftable _ _ (judged .before .before .before .pre) (judged .verdict .ensures) (allowed .if1 .left) .ready .small
+
 cast-states : tie.Need-cast-states
 cast-states c = search needs
 
 element-write-states : tie.Need-element-write-states
 element-write-states c =
-    let allowed = c .before .before .before .before in
+    let allowed = c .before .before .before .before .before in
     let judged = allowed .before in
     call-shiftable _ _ (judged .before .before .before .pre) (judged .verdict .ensures) (allowed .if1 .left) .ready .small
 
-recount-requires : tie.Need-recount-requires
-recount-requires c κs =
-    let allowed = c .before .before .before .before in
+held-bit-requires : tie.Need-held-bit-requires
+held-bit-requires c κs = search needs
+
+add-held : tie.Need-add-held
+add-held c =
+    let allowed = c .before .before .before .before .before .before in
     let judged = allowed .before in
-    call-countable _ _ (judged .before .before .before .pre) (judged .verdict .ensures) (allowed .if1 .left)
+    omega (arith, call-countable _ _ (judged .before .before .before .pre) (judged .verdict .ensures) (allowed .if1 .left) .0, c .held-bit .ensures)
+
+held-bit-requires-2 : tie.Need-held-bit-requires-2
+held-bit-requires-2 c κs = search needs
+
+sub-held : tie.Need-sub-held
+sub-held c =
+    let allowed = c .before .before .before .before .before .before .before in
+    let judged = allowed .before in
+    omega (arith, call-countable _ _ (judged .before .before .before .pre) (judged .verdict .ensures) (allowed .if1 .left) .1, c .held-bit2 .ensures)
 
 returns-2 : tie.Need-returns-2
 returns-2 c =
-    let allowed = c .before .before .before .before .before in
+    let allowed = c .before .before .before .before .before .before .before in
     let judged = allowed .before in
-    call-done _ _ (judged .before .before .before .pre) (judged .verdict .ensures) (allowed .if1 .left) (c .before .shift .ensures)
-    (c .recount .ensures)
+    let shifted = c .before .before .before in
+    call-done _ _ (judged .before .before .before .pre) (judged .verdict .ensures) (allowed .if1 .left) (shifted .shift .ensures)
+    (omega (arith, call-countable _ _ (judged .before .before .before .pre) (judged .verdict .ensures) (allowed .if1 .left) .1, c .before .held-bit .ensures, c .held-bit2 .ensures))
 
 pub call-spec : {M : Type 1} → statement M
 call-spec =
@@ -47,7 +70,12 @@ call-spec =
     verdict-requires
     returns
     shift-requires
+    cast-was
+    element-copy-out-was
     cast-states
     element-write-states
-    recount-requires
+    held-bit-requires
+    add-held
+    held-bit-requires-2
+    sub-held
     returns-2)
