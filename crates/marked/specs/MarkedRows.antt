@@ -1,5 +1,5 @@
--- The marked cases P9 to P12 (docs/RULES.md, "Cases"): what a fresh row answers to calls, and the victim after them. What is wanted stands in the
--- rules' own numbers.
+-- The marked cases P9 to P12 (docs/RULES.md, "Cases"): what a fresh row answers to calls, and the victim after them. What is
+-- wanted stands in the rules' own numbers.
 use Prim.Native.Nat.{ℕ, suc}
 use mathlib.Core.Path.{_≡_, refl}
 use mathlib.Core.List.{List, [], _∷_, _++_, map}

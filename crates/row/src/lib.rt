@@ -1,7 +1,8 @@
-// The frame row (rules W1 to W7; Hoogerwoord 1992, section 1): a fresh row, the five calls, the victim, and the state of one frame. The
-// row stands in memory that the caller lends: the slots, each frame's place in them, each frame's state, the front mark and the number
-// held. The only premise is that the row is one that a fresh row and calls give (`Stands`), and each call leaves one. What the calls
-// mean, and what any sequence of them gives, stands in `row_theory`: a layer above needs its specs/Promise.antt alone.
+// The frame row (rules W1 to W7; Hoogerwoord 1992, section 1): a fresh row, the five calls, the victim, and the state of one
+// frame. The row stands in memory that the caller lends: the slots, each frame's place in them, each frame's state, the front
+// mark and the number held. The only premise is that the row is one that a fresh row and calls give (`Stands`), and each call
+// leaves one. What the calls mean, and what any sequence of them gives, stands in `row_theory`: a layer above needs its
+// specs/Promise.antt alone.
 mod slots;
 mod table;
 
@@ -43,7 +44,10 @@ pub fn call(
     frame: Frame,
 ) -> Reply
     requires { ⌜ Stands (memory (now slots) (now places) (now states) (now front) (now held)) ⌝ }
-    ensures { λ r. ⌜ Answered (memory (now (slots .entry)) (now (places .entry)) (now (states .entry)) (now (front .entry)) (now (held .entry))) (asked event (frame .0)) r (memory (now (slots .exit)) (now (places .exit)) (now (states .exit)) (now (front .exit)) (now (held .exit))) ⌝ }
+    ensures { λ r. ⌜ Answered
+        (memory (now (slots .entry)) (now (places .entry)) (now (states .entry)) (now (front .entry)) (now (held .entry)))
+        (asked event (frame .0)) r
+        (memory (now (slots .exit)) (now (places .exit)) (now (states .exit)) (now (front .exit)) (now (held .exit))) ⌝ }
 {
     let f = frame.0;
     let n = *held;
@@ -69,7 +73,8 @@ pub fn fresh(
     front: &mut usize,
     held: &mut usize,
 )
-    ensures { λ r. ⌜ FreshRow (memory (now (slots .exit)) (now (places .exit)) (now (states .exit)) (now (front .exit)) (now (held .exit))) ⌝ }
+    ensures { λ r. ⌜ FreshRow
+        (memory (now (slots .exit)) (now (places .exit)) (now (states .exit)) (now (front .exit)) (now (held .exit))) ⌝ }
 {
     *slots = [EMPTY; SLOTS];
     *places = [NOWHERE; FRAMES as usize];
@@ -78,8 +83,9 @@ pub fn fresh(
     *held = 0;
 }
 
-// The oldest frame that is idle and whose mark is 1 (rule W7): 26 if nothing is held, 27 if frames are held but none is such a one. Whatever
-// the marks, a busy frame is not given. The scan starts at the old end, so that it ends at the first frame that may be given up.
+// The oldest frame that is idle and whose mark is 1 (rule W7): 26 if nothing is held, 27 if frames are held but none is such
+// a one. Whatever the marks, a busy frame is not given. The scan starts at the old end, so that it ends at the first frame
+// that may be given up.
 pub fn victim_among(
     slots: &PerSlot,
     states: &PerFrame,
@@ -88,7 +94,8 @@ pub fn victim_among(
     held: usize,
 ) -> Victim
     requires { ⌜ Reached (rowWith (now slots) (now states) front held) ⌝ }
-    ensures { λ r. ⌜ Oldest-idle (rowWith (now (slots .entry)) (now (states .entry)) front held) (hasMark (now (marks .entry))) r ⌝ }
+    ensures { λ r. ⌜ Oldest-idle (rowWith (now (slots .entry)) (now (states .entry)) front held)
+        (hasMark (now (marks .entry))) r ⌝ }
 {
     let mut i = SLOTS;
     while front < i {

@@ -1,4 +1,5 @@
--- What holds of any answer that meets a promise (docs/RULES.md, D1, A1, A3): a refusal changes nothing, and two answers to one call are equal.
+-- What holds of any answer that meets a promise (docs/RULES.md, D1, A1, A3): a refusal changes nothing, and two answers to
+-- one call are equal.
 use Prim.Native.Nat.{ℕ, _<_}
 use native.Mathlib.Omega.{arith}
 use mathlib.Core.Path.{_≡_, sym, _∙_, ap}

@@ -1,6 +1,6 @@
--- The slots examined over any calls (docs/RULES.md, W5): at most twice the accepted puts and touches.
--- A squeeze leaves room for 32 moves, its own among them, before the next one: the slots examined and 64 more are at most twice the moves and
--- twice the front.
+-- The slots examined over any calls (docs/RULES.md, W5): at most twice the accepted puts and touches. A squeeze leaves room
+-- for 32 moves, its own among them, before the next one: the slots examined and 64 more are at most twice the moves and twice
+-- the front.
 use Prim.Native.Nat.{ℕ, suc, _+_, _*_, _-_, _≤_, zero-le}
 use native.Mathlib.Omega.{arith}
 use mathlib.Core.Path.{_≡_, refl}
@@ -33,7 +33,8 @@ paid-move : (x k f x′ k′ f′ : ℕ) → Paid x k f → x′ ≡ x → k′ 
 paid-move x k f x′ k′ f′ paid e₁ e₂ e₃ = record { bound = omega (arith, paid .bound); credit = omega (arith, paid .credit) }
 
 paid-squeeze : (x k f x′ k′ f′ : ℕ) → Paid x k f → f ≡ 0 → x′ ≡ slots + x → k′ ≡ suc k → slots - held - 1 ≤ f′ → Paid x′ k′ f′
-paid-squeeze x k f x′ k′ f′ paid e₀ e₁ e₂ room = record { bound = omega (arith, paid .credit); credit = omega (arith, paid .credit) }
+paid-squeeze x k f x′ k′ f′ paid e₀ e₁ e₂ room =
+    record { bound = omega (arith, paid .credit); credit = omega (arith, paid .credit) }
 
 examined-accepted : (row : Row) (call : Call) → accepts (row .states) call ≡ true →
     examinedOf (replyOf row call) ≡ examinedThen (call .event) (row .front)
@@ -62,7 +63,8 @@ room-left : (call : Call) (history : List Call) → accepts (statesAfter history
 unfolding frontAfter spareThen spare
 room-left call history e move squeezes =
     let row = rowAfter history in
-    let step = slot-step (call .event) (row .slots) (row .front) (call .frame) (ready call (sound-after history) (good-after history) e) in
+    let step = slot-step (call .event) (row .slots) (row .front) (call .frame)
+    (ready call (sound-after history) (good-after history) e) in
     rw (move, squeezes) at (step .low)
 
 paid-accepted : (call : Call) (history : List Call) → accepts (statesAfter history) call ≡ true →

@@ -20,7 +20,8 @@ pub known-states : {m : Memory} → Stands m → ((frame : ℕ) → getD (m .sta
 known-states stands = (ordered (stands .reached) .good .known, ordered (stands .reached) .sound .number)
 
 -- A3: a refusal keeps the promise, and leaves the memory as it was
-pub call-refused : {m : Memory} {event : Event} {frame number : ℕ} → Stands m → number ≡ verdictOf (m .states) (asked event frame) →
+pub call-refused : {m : Memory} {event : Event} {frame number : ℕ} → Stands m →
+    number ≡ verdictOf (m .states) (asked event frame) →
     busy < number → Answered m (asked event frame) (Refused (record { number = number; place = 0 })) m
 call-refused {m} {event} {frame} {number} stands is big =
     let refusing = refused-verdict (rowIn m) (asked event frame) (omega arith) in
@@ -28,7 +29,8 @@ call-refused {m} {event} {frame} {number} stands is big =
     (ap (λ (n : ℕ). Refused (record { number = n; place = 0 })) is ∙ sym (refusing .reply))
     (sym (refusing .same)) (stands .index)
 
-module _ {m : Memory} (event : Event) (frame : ℕ) {next : ℕ} (stands : Stands m) (is : next ≡ verdictOf (m .states) (asked event frame))
+module _ {m : Memory} (event : Event) (frame : ℕ) {next : ℕ} (stands : Stands m)
+    (is : next ≡ verdictOf (m .states) (asked event frame))
     (low : next ≤ busy) where
   -- what an accepted call finds
   accepting : Accepting (rowIn m) event frame next
@@ -44,8 +46,11 @@ module _ {m : Memory} (event : Event) (frame : ℕ) {next : ℕ} (stands : Stand
   call-countable =
       let order = ordered (stands .reached) in
       let inside : frame < length (m .states) = omega (arith, call-shiftable .ready .small, order .good .long) in
-      let out = heldIn-set (m .states) frame absent inside in
-      (omega (arith, order .sound .number, order .good .few, heldBit-small next), unfold heldBit in omega (arith, order .sound .number, out))
+      let out = heldIn-set (m .states) frame absent inside in (
+        omega (arith, order .sound .number, order .good .few, heldBit-small next),
+        unfold heldBit in omega
+            (arith, order .sound .number, out),
+      )
 
   -- an accepted call whose steps left what they should keeps the promise
   pub call-done : {examined : ℕ} {slots′ places′ : List ℕ} {front′ held′ : ℕ} →

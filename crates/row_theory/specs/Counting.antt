@@ -1,4 +1,5 @@
--- Counting in lists of numbers: what storing a number and taking one out change of how often each stands there; and both halves of a test.
+-- Counting in lists of numbers: what storing a number and taking one out change of how often each stands there; and both
+-- halves of a test.
 use Prim.Native.Nat.{ℕ, zero, suc, _+_, _-_, _<_, _≤_, zero-le}
 use native.Mathlib.Nat.{le-refl, not-suc-le-zero, le-of-suc-le-suc}
 use native.Mathlib.Omega.{arith}

@@ -9,7 +9,8 @@ use lib.ListN.{length, getD, set, replicate, length-set, length-replicate}
 use lib.Seq.{getD-set-same, getD-set-other}
 use borrow.Author.Tests.{eqb-true, eqb-false}
 use Rattle.rules.specs.Limits.{frames, held}
-use Rattle.row_theory.specs.States.{Call, absent, busy, tableAt, stateOf, heldBit, heldIn, isPut, accepts, statesThen, freshStates}
+use Rattle.row_theory.specs.States.{Call, absent, busy, tableAt, stateOf, heldBit, heldIn, isPut, accepts, statesThen}
+use Rattle.row_theory.specs.States.{freshStates}
 use Rattle.row_theory.specs.History.{statesAfter}
 use Rattle.rules.specs.Cases.{by-cases}
 use Rattle.row_theory.specs.StateLaws.{Effect, effect, accepted, heldIn-set, bitBefore, bitLater}
@@ -44,24 +45,34 @@ states-refused states call e = rw e
 
 -- what an accepted call does to the held bit of its frame, and to the number held
 pub call-effect : (states : List ℕ) (call : Call) → GoodStates states → accepts states call ≡ true →
-    Effect (bitBefore (call .event)) (bitLater (call .event)) (stateOf states (call .frame)) (tableAt (stateOf states (call .frame)) (call .event))
-call-effect states call good e = effect (call .event) (stateOf states (call .frame)) (good .known (call .frame)) (accepted states call e .allowed)
+    Effect (bitBefore (call .event)) (bitLater (call .event)) (stateOf states (call .frame))
+    (tableAt (stateOf states (call .frame)) (call .event))
+call-effect states call good e =
+    effect (call .event) (stateOf states (call .frame)) (good .known (call .frame)) (accepted states call e .allowed)
 
 pub held-then : (states : List ℕ) (call : Call) → GoodStates states → accepts states call ≡ true →
     heldIn (statesThen states call) + bitBefore (call .event) ≡ heldIn states + bitLater (call .event)
 held-then states call good e =
     let fx = call-effect states call good e in
     rw (states-accepted states call e)
-    (omega (arith, heldIn-set states (call .frame) (tableAt (stateOf states (call .frame)) (call .event)) (omega (arith, accepted states call e .small, good .long)), fx .was, fx .becomes))
+    (omega (
+      arith,
+      heldIn-set states (call .frame) (tableAt (stateOf states (call .frame)) (call .event))
+          (omega (arith, accepted states call e .small, good .long)),
+      fx .was,
+      fx .becomes,
+    ))
 
-few-then : (states : List ℕ) (event : Event) (n : ℕ) → heldIn states ≤ held → (isPut event ≡ true → heldIn states < held) → n + bitBefore event ≡ heldIn states + bitLater event → n ≤ held
+few-then : (states : List ℕ) (event : Event) (n : ℕ) → heldIn states ≤ held → (isPut event ≡ true → heldIn states < held) →
+    n + bitBefore event ≡ heldIn states + bitLater event → n ≤ held
 few-then states Put n few room e = omega (arith, room refl)
 few-then states Touch n few room e = omega arith
 few-then states Start n few room e = omega arith
 few-then states End n few room e = omega arith
 few-then states Drop n few room e = omega arith
 
-state-then : (states : List ℕ) (i next f : ℕ) → i < length states → (next ≤ busy) → ((frame : ℕ) → stateOf states frame ≤ busy) → stateOf (set states i next) f ≤ busy
+state-then : (states : List ℕ) (i next f : ℕ) → i < length states → (next ≤ busy) →
+    ((frame : ℕ) → stateOf states frame ≤ busy) → stateOf (set states i next) f ≤ busy
 state-then states i next f inside small known =
     by-cases (eqb f i)
     (λ e. rw (eqb-true f i e, getD-set-same states i next absent inside) small)
@@ -73,7 +84,9 @@ good-then states call good =
     (λ e. let ok = accepted states call e in
     record {
       long = rw (states-accepted states call e) (simp length-set (good .long));
-      known = λ f. rw (states-accepted states call e) (state-then states (call .frame) (tableAt (stateOf states (call .frame)) (call .event)) f (omega (arith, ok .small, good .long)) (ok .allowed) (good .known));
+      known = λ f. rw (states-accepted states call e)
+          (state-then states (call .frame) (tableAt (stateOf states (call .frame)) (call .event)) f
+          (omega (arith, ok .small, good .long)) (ok .allowed) (good .known));
       few = few-then states (call .event) (heldIn (statesThen states call)) (good .few) (ok .room) (held-then states call good e);
     })
     (λ e. rw (states-refused states call e) good)

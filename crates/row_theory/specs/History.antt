@@ -1,5 +1,5 @@
--- Call histories (docs/RULES.md, W5 to W7): what a sequence of calls says by itself. Nothing here knows of slots, as the imports show.
--- A history is the calls so far, latest first, refused ones included.
+-- Call histories (docs/RULES.md, W5 to W7): what a sequence of calls says by itself. Nothing here knows of slots, as the
+-- imports show. A history is the calls so far, latest first, refused ones included.
 use Prim.Native.Nat.{ℕ, _+_, _<_}
 use mathlib.Core.Path.{_≡_}
 use mathlib.Core.Bool.{Bool, true, cond, _&&_}

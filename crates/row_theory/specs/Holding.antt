@@ -1,5 +1,5 @@
--- Slots that hold given frames, none below the front (docs/RULES.md, W1 to W4): what each step of a call leaves of that. The steps are laws
--- of their own, so that what follows from all of them does not depend on their order.
+-- Slots that hold given frames, none below the front (docs/RULES.md, W1 to W4): what each step of a call leaves of that. The
+-- steps are laws of their own, so that what follows from all of them does not depend on their order.
 use Prim.Native.Nat.{ℕ, suc, _-_, _<_, _≤_, zero-le}
 use native.Mathlib.Omega.{arith}
 use mathlib.Core.Path.{_≡_, refl, _∙_, ap}
@@ -13,22 +13,13 @@ use Rattle.rules.specs.Cases.{by-cases}
 use Rattle.row_theory.specs.Slots.{framesIn, emptied, vacated, squeezedFront, roomySlots, roomyFront}
 use Rattle.rules.specs.Lists.{without}
 use Rattle.row_theory.specs.RecentLaws.{fewer}
-use Rattle.row_theory.specs.SlotLaws.{
-  Clear,
-  squeezedFront-rest,
-  framesIn-emptied,
-  emptied-length,
-  emptied-clear,
-  framesIn-squeezed,
-  squeezed-length,
-  squeezed-clear,
-  framesIn-set,
-  set-clear,
-}
+use Rattle.row_theory.specs.SlotLaws.{Clear, squeezedFront-rest, framesIn-emptied, emptied-length, emptied-clear}
+use Rattle.row_theory.specs.SlotLaws.{framesIn-squeezed, squeezed-length, squeezed-clear, framesIn-set, set-clear}
 use Rattle.row_theory.specs.declared.Event.{Event}
 use Rattle.row_theory.specs.declared.Event.the-variants.{Put, Touch, Start, End, Drop}
 
--- all slots are there, at least so many of them are below the front and those are empty, and the others hold these frames in this order
+-- all slots are there, at least so many of them are below the front and those are empty, and the others hold these frames in
+-- this order
 pub record Holding (least : ℕ) (row : List ℕ) (front : ℕ) (list : List ℕ) : Type 0 where
   pub long : length row ≡ slots
   pub low : least ≤ front
@@ -37,7 +28,8 @@ pub record Holding (least : ℕ) (row : List ℕ) (front : ℕ) (list : List ℕ
   pub holds : framesIn row ≡ list
 
 -- whatever the list is called, it is the frames in the slots
-pub refits : {least : ℕ} {row : List ℕ} {front : ℕ} {list : List ℕ} → Holding least row front list → Holding 0 row front (framesIn row)
+pub refits : {least : ℕ} {row : List ℕ} {front : ℕ} {list : List ℕ} → Holding least row front list →
+    Holding 0 row front (framesIn row)
 refits it = record { long = it .long; low = zero-le; inside = it .inside; clear = it .clear; holds = refl }
 
 pub emptied-holding : {least : ℕ} {row : List ℕ} {front : ℕ} {list : List ℕ} (frame : ℕ) → frame < frames →

@@ -6,7 +6,7 @@ use lib.ListN.{length, set}
 use Rattle.rules.specs.Limits.{frames, held}
 use Rattle.rules.specs.Limits
 use Rattle.rules.specs.Lists.{times}
-use Rattle.row_theory.specs.Slots.{framesIn, placesIn, roomySlots, roomyFront, slotsThen, frontThen, examinedThen}
+use Rattle.row_theory.specs.Slots.{framesIn, emptied, squeezedFront, squeezed, placesIn, roomySlots, roomyFront, slotsThen, frontThen, examinedThen}
 use Rattle.row_theory.specs.Holding.{Holding}
 use Rattle.row_theory.specs.StepLaws.{Ready}
 use Rattle.row_theory.specs.declared.Event.{Event}
@@ -17,6 +17,23 @@ pub record Indexed (slots places : List ℕ) : Type 0 where
   pub long : length slots ≡ Limits.slots
   pub once : (frame : ℕ) → frame < frames → times frame slots ≤ 1
   pub index : places ≡ placesIn slots
+
+-- W3: the front that a squeeze answers, and what it leaves
+pub record SqueezedNow (slots : List ℕ) (top : ℕ) (slots′ places′ : List ℕ) : Type 0 where
+  pub front : top ≡ squeezedFront slots
+  pub row : slots′ ≡ squeezed slots
+  pub index : places′ ≡ placesIn (squeezed slots)
+
+-- a frame has taken a slot, which becomes the front
+pub record TakenSlot (slots places : List ℕ) (at frame : ℕ) (slots′ places′ : List ℕ) (front′ : ℕ) : Type 0 where
+  pub row : slots′ ≡ set slots at frame
+  pub index : places′ ≡ set places frame at
+  pub mark : front′ ≡ at
+
+-- W4: a frame's slot is emptied
+pub record LeftSlot (slots : List ℕ) (frame : ℕ) (slots′ places′ : List ℕ) : Type 0 where
+  pub row : slots′ ≡ emptied frame slots
+  pub index : places′ ≡ placesIn (emptied frame slots)
 
 -- a frame that is not in the slots can take one
 pub record Seatable (slots places : List ℕ) (front frame : ℕ) : Type 0 where
@@ -37,7 +54,8 @@ pub record Shiftable (event : Event) (slots places : List ℕ) (front frame : �
   pub indexed : Indexed slots places
   pub ready : Ready event slots front frame
 
-pub record Shifted (event : Event) (slots : List ℕ) (front frame examined : ℕ) (slots′ places′ : List ℕ) (front′ : ℕ) : Type 0 where
+pub record Shifted (event : Event) (slots : List ℕ) (front frame examined : ℕ) (slots′ places′ : List ℕ) (front′ : ℕ)
+    : Type 0 where
   pub answer : examined ≡ examinedThen event front
   pub row : slots′ ≡ slotsThen event slots front frame
   pub index : places′ ≡ placesIn slots′

@@ -1,4 +1,5 @@
--- The oldest frame that passes a test (docs/RULES.md, W7): along slots that hold their frames most recent first, its moment is earliest.
+-- The oldest frame that passes a test (docs/RULES.md, W7): along slots that hold their frames most recent first, its moment
+-- is earliest.
 use Prim.Native.Nat.{ℕ, _<_, _≤_}
 use native.Mathlib.Omega.{arith}
 use mathlib.Core.Path.{_≡_, refl, sym, _∙_, ap}
@@ -24,7 +25,8 @@ unfolding passes
 passes-empty may x h = rw (le-ltb x frames h)
 
 -- the last slot of a row whose frame passes has the oldest; where none does, the rest of the row decides
-pub oldest-cons : (may : ℕ → Bool) (x : ℕ) (row : List ℕ) → oldest may (x ∷ row) ≡ older (oldest may row) (cond (passes may x) x empty)
+pub oldest-cons : (may : ℕ → Bool) (x : ℕ) (row : List ℕ) →
+    oldest may (x ∷ row) ≡ older (oldest may row) (cond (passes may x) x empty)
 unfolding oldest
 oldest-cons may x row = refl
 
@@ -45,11 +47,15 @@ older-young old young h = rw (le-ltb old frames h)
 pub oldest-behind : (may : ℕ → Bool) (x : ℕ) (row : List ℕ) → oldest may row < frames → oldest may (x ∷ row) ≡ oldest may row
 oldest-behind may x row h = oldest-cons may x row ∙ older-old (oldest may row) (cond (passes may x) x empty) h
 
-pub oldest-here : (may : ℕ → Bool) (x : ℕ) (row : List ℕ) → frames ≤ oldest may row → passes may x ≡ true → oldest may (x ∷ row) ≡ x
-oldest-here may x row h e = oldest-cons may x row ∙ older-young (oldest may row) (cond (passes may x) x empty) h ∙ ap (λ (b : Bool). cond b x empty) e
+pub oldest-here : (may : ℕ → Bool) (x : ℕ) (row : List ℕ) → frames ≤ oldest may row → passes may x ≡ true →
+    oldest may (x ∷ row) ≡ x
+oldest-here may x row h e =
+    oldest-cons may x row ∙ older-young (oldest may row) (cond (passes may x) x empty) h ∙ ap (λ (b : Bool). cond b x empty) e
 
-pub oldest-not : (may : ℕ → Bool) (x : ℕ) (row : List ℕ) → frames ≤ oldest may row → passes may x ≡ false → oldest may (x ∷ row) ≡ empty
-oldest-not may x row h e = oldest-cons may x row ∙ older-young (oldest may row) (cond (passes may x) x empty) h ∙ ap (λ (b : Bool). cond b x empty) e
+pub oldest-not : (may : ℕ → Bool) (x : ℕ) (row : List ℕ) → frames ≤ oldest may row → passes may x ≡ false →
+    oldest may (x ∷ row) ≡ empty
+oldest-not may x row h e =
+    oldest-cons may x row ∙ older-young (oldest may row) (cond (passes may x) x empty) h ∙ ap (λ (b : Bool). cond b x empty) e
 
 -- where no frame passes, the answer is `empty`
 pub oldest-none-empty : (may : ℕ → Bool) (row : List ℕ) → frames ≤ oldest may row → oldest may row ≡ empty
@@ -75,12 +81,14 @@ pub oldest-framesIn : (may : ℕ → Bool) (row : List ℕ) → oldest may (fram
 oldest-framesIn may [] = unfold framesIn in refl
 oldest-framesIn may (x ∷ row) =
     by-cases (ltb x frames)
-    (λ e. rw (framesIn-frame x row (ltb-true x frames e), oldest-cons may x (framesIn row), oldest-cons may x row) (ap (λ (v : ℕ). older v (cond (passes may x) x empty)) (oldest-framesIn may row)))
+    (λ e. rw (framesIn-frame x row (ltb-true x frames e), oldest-cons may x (framesIn row), oldest-cons may x row)
+    (ap (λ (v : ℕ). older v (cond (passes may x) x empty)) (oldest-framesIn may row)))
     (λ e. let none : frames ≤ x = ltb-false x frames e in
     rw (framesIn-empty x row none) (oldest-framesIn may row ∙ sym (oldest-skip may x row (passes-empty may x none))))
 
 -- if the answer is no frame, no frame of the list passes
-pub oldest-none : (may : ℕ → Bool) (list : List ℕ) → frames ≤ oldest may list → (frame : ℕ) → 0 < times frame list → passes may frame ≡ true → ⊥
+pub oldest-none : (may : ℕ → Bool) (list : List ℕ) → frames ≤ oldest may list → (frame : ℕ) → 0 < times frame list →
+    passes may frame ≡ true → ⊥
 oldest-none may [] h frame inside m = unfold times in omega arith
 oldest-none may (x ∷ list) h frame inside m =
     by-cases (ltb (oldest may list) frames)
@@ -98,7 +106,8 @@ pub record EarliestPassing (may : ℕ → Bool) (list : List ℕ) (moment : ℕ 
   pub there : 0 < times frame list
   pub earliest : (other : ℕ) → (frame ≡ other → ⊥) → 0 < times other list → passes may other ≡ true → moment frame < moment other
 
-chosen-behind : (may : ℕ → Bool) (moment : ℕ → ℕ) (x : ℕ) (list : List ℕ) (frame : ℕ) → Earlier moment (moment x) list → EarliestPassing may list moment frame → EarliestPassing may (x ∷ list) moment frame
+chosen-behind : (may : ℕ → Bool) (moment : ℕ → ℕ) (x : ℕ) (list : List ℕ) (frame : ℕ) → Earlier moment (moment x) list →
+    EarliestPassing may list moment frame → EarliestPassing may (x ∷ list) moment frame
 chosen-behind may moment x list frame earlier chosen =
     record {
       bears = chosen .bears;
@@ -108,7 +117,8 @@ chosen-behind may moment x list frame earlier chosen =
           (λ ne. chosen .earliest other apart (omega (arith, times-other other x list (eqb-false x other ne))) m);
     }
 
-chosen-here : (may : ℕ → Bool) (moment : ℕ → ℕ) (x : ℕ) (list : List ℕ) → frames ≤ oldest may list → passes may x ≡ true → EarliestPassing may (x ∷ list) moment x
+chosen-here : (may : ℕ → Bool) (moment : ℕ → ℕ) (x : ℕ) (list : List ℕ) → frames ≤ oldest may list → passes may x ≡ true →
+    EarliestPassing may (x ∷ list) moment x
 chosen-here may moment x list none m =
     record {
       bears = m;
@@ -119,13 +129,15 @@ chosen-here may moment x list none m =
     }
 
 -- W7: if the answer is a frame, its moment is the earliest of those that pass
-pub oldest-chosen : (may : ℕ → Bool) (moment : ℕ → ℕ) (list : List ℕ) → Recent moment list → oldest may list < frames → EarliestPassing may list moment (oldest may list)
+pub oldest-chosen : (may : ℕ → Bool) (moment : ℕ → ℕ) (list : List ℕ) → Recent moment list → oldest may list < frames →
+    EarliestPassing may list moment (oldest may list)
 oldest-chosen may moment [] order h = absurd (unfold oldest in omega arith)
 oldest-chosen may moment (x ∷ list) order h =
     let parts : Earlier moment (moment x) list × Recent moment list = unfold Recent in order in
     by-cases (ltb (oldest may list) frames)
     (λ e. let small : oldest may list < frames = ltb-true (oldest may list) frames e in
-    rw (oldest-behind may x list small) (chosen-behind may moment x list (oldest may list) (parts .0) (oldest-chosen may moment list (parts .1) small)))
+    rw (oldest-behind may x list small)
+    (chosen-behind may moment x list (oldest may list) (parts .0) (oldest-chosen may moment list (parts .1) small)))
     (λ e. let none : frames ≤ oldest may list = ltb-false (oldest may list) frames e in
     by-cases (passes may x)
     (λ m. rw (oldest-here may x list none m) (chosen-here may moment x list none m))

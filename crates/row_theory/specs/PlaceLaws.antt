@@ -27,7 +27,8 @@ places-at : (n k : ℕ) (row : List ℕ) (i : ℕ) → i < k → getD (placesFro
 unfolding placesFrom
 places-at n zero row i small = absurd (not-suc-le-zero small)
 places-at n (suc k) row zero small = rw add-zero
-places-at n (suc k) row (suc i) small = rw add-suc (places-at (suc n) k row i (le-of-suc-le-suc small) ∙ ap (λ (m : ℕ). slotOf m row) (suc-add n i))
+places-at n (suc k) row (suc i) small =
+    rw add-suc (places-at (suc n) k row i (le-of-suc-le-suc small) ∙ ap (λ (m : ℕ). slotOf m row) (suc-add n i))
 
 pub placesIn-at : (row : List ℕ) (frame : ℕ) → frame < frames → getD (placesIn row) frame 0 ≡ slotOf frame row
 unfolding placesIn
@@ -62,7 +63,8 @@ emptied-place x [] = refl
 emptied-place x (y ∷ row) = by-cases (eqb y x) (λ e. rw e) (λ e. rw e (ap (λ (l : List ℕ). y ∷ l) (emptied-place x row)))
 
 -- a store leaves the place of every number but the old and the new one
-slotOf-other : (x : ℕ) (row : List ℕ) (k v d : ℕ) → k < length row → (getD row k d ≡ x → ⊥) → (v ≡ x → ⊥) → slotOf x (set row k v) ≡ slotOf x row
+slotOf-other : (x : ℕ) (row : List ℕ) (k v d : ℕ) → k < length row → (getD row k d ≡ x → ⊥) → (v ≡ x → ⊥) →
+    slotOf x (set row k v) ≡ slotOf x row
 unfolding slotOf
 slotOf-other x [] k v d inside old new = absurd (not-suc-le-zero inside)
 slotOf-other x (y ∷ row) zero v d inside old new = rw (ne-eqb v x new, ne-eqb y x old)
@@ -78,18 +80,25 @@ slotOf-new x (y ∷ row) (suc k) inside none =
     (λ e. let rest : times x row ≡ 0 = rw e at none in rw e (ap suc (slotOf-new x row k (le-of-suc-le-suc inside) rest)))
 
 -- places that agree with a table at its frame and with the old places at every other
-places-set : (before later : List ℕ) (x p : ℕ) → x < frames → slotOf x later ≡ p → ((y : ℕ) → y < frames → (y ≡ x → ⊥) → slotOf y later ≡ slotOf y before) →
+places-set : (before later : List ℕ) (x p : ℕ) → x < frames → slotOf x later ≡ p →
+    ((y : ℕ) → y < frames → (y ≡ x → ⊥) → slotOf y later ≡ slotOf y before) →
     placesIn later ≡ set (placesIn before) x p
 places-set before later x p small here others =
     ext-getD 0 (placesIn later) (set (placesIn before) x p) (simp (placesIn-length, length-set))
     (λ i inside. let low : i < frames = omega (arith, placesIn-length later) in
     by-cases (eqb i x)
-    (λ e. rw (placesIn-at later i low, eqb-true i x e, getD-set-same (placesIn before) x p 0 (omega (arith, placesIn-length before))) here)
+    (λ e. rw (
+      placesIn-at later i low,
+      eqb-true i x e,
+      getD-set-same (placesIn before) x p 0
+          (omega (arith, placesIn-length before)),
+    ) here)
     (λ e. let ne : i ≡ x → ⊥ = eqb-false i x e in
     rw (placesIn-at later i low, getD-set-other (placesIn before) x i p 0 ne, placesIn-at before i low) (others i low ne)))
 
 -- a frame that stood once, taken out of its slot, has no place
-pub places-out : (row : List ℕ) (k x d : ℕ) → x < frames → k < length row → getD row k d ≡ x → times x row ≡ 1 → placesIn (set row k empty) ≡ set (placesIn row) x (length row)
+pub places-out : (row : List ℕ) (k x d : ℕ) → x < frames → k < length row → getD row k d ≡ x → times x row ≡ 1 →
+    placesIn (set row k empty) ≡ set (placesIn row) x (length row)
 places-out row k x d small inside there once =
     let none : times x (set row k empty) ≡ 0 =
     omega (arith, rw (eq-eqb (getD row k d) x there, ne-eqb empty x (λ e. omega arith)) at (times-set x row k empty d inside)) in
@@ -97,7 +106,8 @@ places-out row k x d small inside there once =
     (λ y low ne. slotOf-other y row k empty d inside (λ e. ne (sym e ∙ there)) (λ e. omega arith))
 
 -- a frame that stood nowhere, put into a slot without a frame, has that slot for its place
-pub places-in : (row : List ℕ) (k x d : ℕ) → x < frames → k < length row → frames ≤ getD row k d → times x row ≡ 0 → placesIn (set row k x) ≡ set (placesIn row) x k
+pub places-in : (row : List ℕ) (k x d : ℕ) → x < frames → k < length row → frames ≤ getD row k d → times x row ≡ 0 →
+    placesIn (set row k x) ≡ set (placesIn row) x k
 places-in row k x d small inside there none =
     places-set row (set row k x) x k small (slotOf-new x row k inside none)
     (λ y low ne. slotOf-other y row k x d inside (λ e. omega arith) (λ e. ne (sym e)))

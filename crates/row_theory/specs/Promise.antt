@@ -41,15 +41,15 @@ pub record Stands (m : Memory) : Type 0 where
 abbrev pub asked : Event → ℕ → Call
 asked event frame = record { event = event; frame = frame }
 
--- what a reply and the row after it say of a history before the call: the number is the one that the history says (0: accepted), the place is
--- 0, and the row is that of the longer history
+-- what a reply and the row after it say of a history before the call: the number is the one that the history says (0:
+-- accepted), the place is 0, and the row is that of the longer history
 pub record Reply-says (history : List Call) (call : Call) (reply : Reply) (row′ : Row) : Type 0 where
   pub number : replyNumber reply ≡ refusalOf (statesAfter history) call
   pub place : replyPlace reply ≡ 0
   pub next : row′ ≡ rowAfter (call ∷ history)
 
--- one of the five calls: the whole answer and the whole row after it, which again is one that calls give; and what that says of any history
--- that gives the row
+-- one of the five calls: the whole answer and the whole row after it, which again is one that calls give; and what that says
+-- of any history that gives the row
 pub record Answered (m : Memory) (call : Call) (reply : Reply) (m′ : Memory) : Type 0 where
   pub answer : reply ≡ replyOf (rowIn m) call
   pub next : rowIn m′ ≡ after (rowIn m) call
@@ -61,8 +61,8 @@ pub record FreshRow (m : Memory) : Type 0 where
   pub whole : rowIn m ≡ emptyRow
   pub stands : Stands m
 
--- W7, R26, R27: the oldest idle frame among those that the caller lets go: the whole answer, and what it says of any history that gives
--- the row
+-- W7, R26, R27: the oldest idle frame among those that the caller lets go: the whole answer, and what it says of any history
+-- that gives the row
 pub record Oldest-idle (row : Row) (may : ℕ → Bool) (victim : Victim) : Type 0 where
   pub answer : victim ≡ victimAmong may row
   pub says : (history : List Call) → rowAfter history ≡ row → Victim-says history may victim

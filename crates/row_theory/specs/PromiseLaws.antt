@@ -58,7 +58,8 @@ same-memory {m₁} {m₂} same one two =
 
 pub fresh-row : {m : Memory} → rowIn m ≡ emptyRow → m .places ≡ placesIn (m .slots) → FreshRow m
 unfolding rowAfter
-fresh-row whole index = record { whole = whole; stands = record { reached = record { history = []; gives = sym whole }; index = index } }
+fresh-row whole index =
+    record { whole = whole; stands = record { reached = record { history = []; gives = sym whole }; index = index } }
 
 pub oldest-idle : {row : Row} {may : ℕ → Bool} {victim : Victim} → victim ≡ victimAmong may row → Oldest-idle row may victim
 oldest-idle {row} {may} {victim} answer =
@@ -73,7 +74,8 @@ pub record Ordered (row : Row) : Type 0 where
 pub ordered : {row : Row} → Reached row → Ordered row
 ordered {row} reached =
     let history = reached .history in
-    let same : statesAfter history ≡ row .states = sym (sound-after history .sameStates) ∙ ap (λ (r : Row). r .states) (reached .gives) in
+    let same : statesAfter history ≡ row .states = sym (sound-after history .sameStates) ∙ ap (λ (r : Row). r .states)
+    (reached .gives) in
     record {
       good = subst GoodStates same (good-after history);
       moment = momentAfter history;

@@ -12,7 +12,8 @@ use Rattle.rules.specs.Lists.{times, without}
 use Rattle.row_theory.specs.States.{moves}
 use Rattle.row_theory.specs.StateLaws.{bitBefore, bitLater}
 use Rattle.rules.specs.Cases.{by-cases}
-use Rattle.row_theory.specs.Counting.{times-cons, times-same, times-other, times-without, times-without-other, times-without-le, length-without, length-without-le}
+use Rattle.row_theory.specs.Counting.{times-cons, times-same, times-other, times-without, times-without-other}
+use Rattle.row_theory.specs.Counting.{times-without-le, length-without, length-without-le}
 use Rattle.row_theory.specs.Runs.{Recent}
 use Rattle.row_theory.specs.declared.Event.{Event}
 use Rattle.row_theory.specs.declared.Event.the-variants.{Put, Touch, Start, End, Drop}
@@ -30,7 +31,8 @@ unfoldable pub recentThen : Event → ℕ → List ℕ → List ℕ
 recentThen event frame list = cond (moves event) (frame ∷ fewer event frame list) (fewer event frame list)
 
 -- the frame of an accepted call stands in the list as its state says
-pub times-then : (event : Event) (frame : ℕ) (list : List ℕ) → times frame list ≡ bitBefore event → times frame (recentThen event frame list) ≡ bitLater event
+pub times-then : (event : Event) (frame : ℕ) (list : List ℕ) → times frame list ≡ bitBefore event →
+    times frame (recentThen event frame list) ≡ bitLater event
 unfolding recentThen fewer
 times-then Put frame list h = times-same frame frame list refl ∙ ap suc h
 times-then Touch frame list h = omega (arith, times-same frame frame (without frame list) refl, times-without frame list)
@@ -39,15 +41,18 @@ times-then End frame list h = h
 times-then Drop frame list h = omega (arith, times-without frame list)
 
 -- every other frame as before
-pub times-then-other : (event : Event) (frame other : ℕ) (list : List ℕ) → (frame ≡ other → ⊥) → times other (recentThen event frame list) ≡ times other list
+pub times-then-other : (event : Event) (frame other : ℕ) (list : List ℕ) → (frame ≡ other → ⊥) →
+    times other (recentThen event frame list) ≡ times other list
 unfolding recentThen fewer
 times-then-other Put frame other list ne = times-other other frame list ne
-times-then-other Touch frame other list ne = times-other other frame (without frame list) ne ∙ times-without-other frame other list ne
+times-then-other Touch frame other list ne =
+    times-other other frame (without frame list) ne ∙ times-without-other frame other list ne
 times-then-other Start frame other list ne = refl
 times-then-other End frame other list ne = refl
 times-then-other Drop frame other list ne = times-without-other frame other list ne
 
-pub length-then : (event : Event) (frame : ℕ) (list : List ℕ) → times frame list ≡ bitBefore event → length (recentThen event frame list) + bitBefore event ≡ length list + bitLater event
+pub length-then : (event : Event) (frame : ℕ) (list : List ℕ) → times frame list ≡ bitBefore event →
+    length (recentThen event frame list) + bitBefore event ≡ length list + bitLater event
 unfolding recentThen fewer
 length-then Put frame list h = omega arith
 length-then Touch frame list h = omega (arith, length-without frame list (omega arith))
@@ -89,14 +94,17 @@ pub record Later (event : Event) (frame : ℕ) (m n : ℕ → ℕ) : Type 0 wher
   pub others : (x : ℕ) → (frame ≡ x → ⊥) → n x ≡ m x
 
 -- a frame at the head of a list in which it does not stand, with the latest moment
-recent-head : (frame : ℕ) (m n : ℕ → ℕ) (list : List ℕ) → ((x : ℕ) → m x < n frame) → ((x : ℕ) → (frame ≡ x → ⊥) → n x ≡ m x) → times frame list ≡ 0 → Recent m list → Recent n (frame ∷ list)
+recent-head : (frame : ℕ) (m n : ℕ → ℕ) (list : List ℕ) → ((x : ℕ) → m x < n frame) → ((x : ℕ) → (frame ≡ x → ⊥) → n x ≡ m x) →
+    times frame list ≡ 0 → Recent m list → Recent n (frame ∷ list)
 unfolding Recent
 recent-head frame m n list latest others fresh order =
-    let agree : (x : ℕ) → 0 < times x list → n x ≡ m x = λ x inside. others x (λ e. omega (arith, ap (λ (y : ℕ). times y list) e)) in
+    let agree : (x : ℕ) → 0 < times x list → n x ≡ m x = λ x inside. others x
+    (λ e. omega (arith, ap (λ (y : ℕ). times y list) e)) in
     ((λ y inside. omega (arith, agree y inside, latest y)), recent-same m n list agree order)
 
 -- a call that does not move its frame changes no moment
-recent-kept : (frame : ℕ) (m n : ℕ → ℕ) (list : List ℕ) → n frame ≡ m frame → ((x : ℕ) → (frame ≡ x → ⊥) → n x ≡ m x) → Recent m list → Recent n list
+recent-kept : (frame : ℕ) (m n : ℕ → ℕ) (list : List ℕ) → n frame ≡ m frame → ((x : ℕ) → (frame ≡ x → ⊥) → n x ≡ m x) →
+    Recent m list → Recent n list
 recent-kept frame m n list kept others order =
     recent-same m n list
     (λ x inside. by-cases (eqb frame x)
@@ -105,11 +113,13 @@ recent-kept frame m n list kept others order =
     order
 
 -- W1, W7: an accepted call keeps the frames most recent first
-pub recent-then : (event : Event) (frame : ℕ) (m n : ℕ → ℕ) (list : List ℕ) → times frame list ≡ bitBefore event → Later event frame m n → Recent m list → Recent n (recentThen event frame list)
+pub recent-then : (event : Event) (frame : ℕ) (m n : ℕ → ℕ) (list : List ℕ) → times frame list ≡ bitBefore event →
+    Later event frame m n → Recent m list → Recent n (recentThen event frame list)
 unfolding recentThen fewer
 recent-then Put frame m n list h later order = recent-head frame m n list (later .latest refl) (later .others) h order
 recent-then Touch frame m n list h later order =
-    recent-head frame m n (without frame list) (later .latest refl) (later .others) (omega (arith, times-without frame list)) (recent-without m frame list order)
+    recent-head frame m n (without frame list) (later .latest refl) (later .others) (omega (arith, times-without frame list))
+    (recent-without m frame list order)
 recent-then Start frame m n list h later order = recent-kept frame m n list (later .kept refl) (later .others) order
 recent-then End frame m n list h later order = recent-kept frame m n list (later .kept refl) (later .others) order
 recent-then Drop frame m n list h later order =

@@ -1,4 +1,5 @@
--- The row that a fresh row and calls give (docs/RULES.md, W1 to W5), latest call first or first call first, and its order by moments.
+-- The row that a fresh row and calls give (docs/RULES.md, W1 to W5), latest call first or first call first, and its order by
+-- moments.
 use Prim.Native.Nat.{ℕ, _+_, _<_, _≤_}
 use mathlib.Core.Path.{_≡_}
 use mathlib.Core.List.{List, [], _∷_}
@@ -6,7 +7,8 @@ use lib.ListN.{getD}
 use Rattle.rules.specs.Limits.{frames, slots}
 use Rattle.row_theory.specs.States.{Call, tableAt, heldBit, heldIn, verdictOf, refusalOf, accepts, statesThen}
 use Rattle.rules.specs.Lists.{times}
-use Rattle.row_theory.specs.Slots.{empty, framesIn, emptied, squeezedFront, squeezed, roomySlots, roomyFront, vacated, slotsThen, frontThen, examinedThen, passes, older, oldest}
+use Rattle.row_theory.specs.Slots.{empty, framesIn, emptied, squeezedFront, squeezed, roomySlots, roomyFront, vacated}
+use Rattle.row_theory.specs.Slots.{slotsThen, frontThen, examinedThen, passes, older, oldest}
 use Rattle.row_theory.specs.Row.{Row, emptyRow, moved, after, replyOf, examinedOf, idleAmong, victimAmong, victimOf}
 use Rattle.row_theory.specs.declared.Reply.{Reply}
 use Rattle.row_theory.specs.declared.Victim.{Victim}
@@ -35,7 +37,8 @@ unfoldable pub Recent : (ℕ → ℕ) → List ℕ → Type 0
 Recent moment [] = Unit {0}
 Recent moment (x ∷ list) = Earlier moment (moment x) list × Recent moment list
 
--- W3: the frames are packed against the last slot: with the front they make up all slots, and each slot from the front on holds a frame
+-- W3: the frames are packed against the last slot: with the front they make up all slots, and each slot from the front on
+-- holds a frame
 pub record PackedRow (row : Row) : Type 0 where
   pub sum : row .front + row .held ≡ slots
   pub full : (slot : ℕ) → row .front ≤ slot → slot < slots → getD (row .slots) slot empty < frames
@@ -49,9 +52,11 @@ unfoldable pub answersFrom : Row → List Call → List Reply
 answersFrom row [] = []
 answersFrom row (call ∷ calls) = replyOf row call ∷ answersFrom (after row call) calls
 
--- P9 to P12: what a fresh row answers to these calls, and the victim after them. Whoever unfolds one of the two unfolds all that it computes by
+-- P9 to P12: what a fresh row answers to these calls, and the victim after them. Whoever unfolds one of the two unfolds all
+-- that it computes by
 unfoldable pub answersOf : List Call → List Reply
-unfolding tableAt heldBit heldIn verdictOf refusalOf accepts statesThen framesIn emptied squeezedFront squeezed roomySlots roomyFront vacated slotsThen frontThen examinedThen emptyRow moved after replyOf answersFrom
+unfolding tableAt heldBit heldIn verdictOf refusalOf accepts statesThen framesIn emptied squeezedFront squeezed roomySlots
+    roomyFront vacated slotsThen frontThen examinedThen emptyRow moved after replyOf answersFrom
 answersOf calls = answersFrom emptyRow calls
 
 unfoldable pub victimAfterCalls : List Call → Victim

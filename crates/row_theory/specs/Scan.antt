@@ -24,7 +24,8 @@ use Rattle.row_theory.specs.declared.Victim.{Victim}
 use Rattle.row_theory.specs.declared.Victim.the-variants.{Given, Refused}
 
 -- what stands ahead of a frame that passes does not matter
-oldest-drop : (may : ℕ → Bool) (row : List ℕ) (i : ℕ) → oldest may (drop i row) < frames → oldest may row ≡ oldest may (drop i row)
+oldest-drop : (may : ℕ → Bool) (row : List ℕ) (i : ℕ) → oldest may (drop i row) < frames →
+    oldest may row ≡ oldest may (drop i row)
 oldest-drop may [] zero h = refl
 oldest-drop may (x ∷ row) zero h = refl
 oldest-drop may [] (suc i) h = refl
@@ -39,7 +40,8 @@ oldest-clear may (x ∷ row) zero clear h = h
 oldest-clear may [] (suc i) clear h = h
 oldest-clear may (x ∷ row) (suc i) clear h =
     let none : x ≡ empty = clear 0 (suc-le-suc zero-le) in
-    rw (oldest-skip may x row (passes-empty may x (omega arith))) (oldest-clear may row i (λ j below. clear (suc j) (suc-le-suc below)) h)
+    rw (oldest-skip may x row (passes-empty may x (omega arith)))
+    (oldest-clear may row i (λ j below. clear (suc j) (suc-le-suc below)) h)
 
 -- may the frame be given up by these states and marks?
 abbrev markedIdle : List ℕ → List ℕ → ℕ → Bool
@@ -133,7 +135,8 @@ idle-marked : (states : List ℕ) (frame : ℕ) → idleAmong (hasMark states) s
 unfolding idleAmong hasMark
 idle-marked states frame = by-cases (eqb (getD states frame 0) idle) (λ e. rw e) (λ e. rw e)
 
-pub states-as-marks : {row : Row} {victim : Victim} → Oldest-idle row (hasMark (row .states)) victim → Oldest-idle row anyFrame victim
+pub states-as-marks : {row : Row} {victim : Victim} → Oldest-idle row (hasMark (row .states)) victim →
+    Oldest-idle row anyFrame victim
 unfolding victimAmong
 states-as-marks {row} p =
     oldest-idle (p .answer ∙ rw (oldest-same (row .slots) (idle-marked (row .states))))

@@ -100,7 +100,8 @@ framesIn-again : (row : List ℕ) → framesIn (framesIn row) ≡ framesIn row
 framesIn-again [] = unfold framesIn in refl
 framesIn-again (x ∷ row) =
     by-cases (ltb x frames)
-    (λ e. rw (framesIn-frame x row (ltb-true x frames e), framesIn-frame x (framesIn row) (ltb-true x frames e)) (ap (λ l. x ∷ l) (framesIn-again row)))
+    (λ e. rw (framesIn-frame x row (ltb-true x frames e), framesIn-frame x (framesIn row) (ltb-true x frames e))
+    (ap (λ l. x ∷ l) (framesIn-again row)))
     (λ e. rw (framesIn-empty x row (ltb-false x frames e)) (framesIn-again row))
 
 -- W3: squeezing keeps the frames and their order
@@ -122,7 +123,8 @@ unfolding squeezed
 squeezed-clear row = clear-replicate (squeezedFront row) (framesIn row)
 
 -- W2: a frame put into the last of the empty slots at the front becomes the most recent
-pub framesIn-set : (row : List ℕ) (k frame : ℕ) → frame < frames → k < length row → Clear (suc k) row → framesIn (set row k frame) ≡ frame ∷ framesIn row
+pub framesIn-set : (row : List ℕ) (k frame : ℕ) → frame < frames → k < length row → Clear (suc k) row →
+    framesIn (set row k frame) ≡ frame ∷ framesIn row
 framesIn-set [] k frame h inside clear = absurd (not-suc-le-zero inside)
 framesIn-set (x ∷ row) zero frame h inside clear =
     let none : x ≡ empty = clear 0 (suc-le-suc zero-le) in

@@ -1,4 +1,5 @@
--- The slots of the row (docs/RULES.md, W1 to W5, W7; Hoogerwoord 1992, section 1): emptying a slot, squeezing, taking a slot, the oldest frame.
+-- The slots of the row (docs/RULES.md, W1 to W5, W7; Hoogerwoord 1992, section 1): emptying a slot, squeezing, taking a slot,
+-- the oldest frame.
 use Prim.Native.Nat.{ℕ, zero, suc, _+_, _-_}
 use mathlib.Core.Bool.{Bool, cond, _&&_}
 use mathlib.Core.List.{List, [], _∷_, _++_}
@@ -59,7 +60,8 @@ vacated Start frame row = row
 vacated End frame row = row
 vacated Drop frame row = emptied frame row
 
--- W2, W4: the slots and the front after an accepted call: then, for a put or a touch, the front falls by one and that slot takes the frame
+-- W2, W4: the slots and the front after an accepted call: then, for a put or a touch, the front falls by one and that slot
+-- takes the frame
 unfoldable pub slotsThen : Event → List ℕ → ℕ → ℕ → List ℕ
 slotsThen event row front frame =
     let left = vacated event frame row in

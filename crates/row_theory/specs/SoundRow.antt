@@ -19,7 +19,8 @@ use Rattle.row_theory.specs.Runs.{rowAfter, Recent}
 use Rattle.rules.specs.Cases.{by-cases}
 use Rattle.row_theory.specs.StateLaws.{accepted, bitBefore}
 use Rattle.row_theory.specs.Holding.{Holding, refits}
-use Rattle.row_theory.specs.RecentLaws.{recentThen, times-then, times-then-other, length-then, Later, recent-then, recent-same}
+use Rattle.row_theory.specs.RecentLaws.{recentThen, times-then, times-then-other, length-then, Later, recent-then}
+use Rattle.row_theory.specs.RecentLaws.{recent-same}
 use Rattle.row_theory.specs.StepLaws.{Ready, slot-step}
 use Rattle.row_theory.specs.GoodStates.{GoodStates, good-after, states-accepted, states-refused, call-effect, held-then}
 use Rattle.row_theory.specs.Moments.{later-accepted, moment-refused}
@@ -34,7 +35,8 @@ pub record Sound (row : Row) (states : List ℕ) (moment : ℕ → ℕ) : Type 0
   pub order : Recent moment (framesIn (row .slots))
 
 -- an accepted call finds the slots in order
-pub ready : {row : Row} {states : List ℕ} {moment : ℕ → ℕ} (call : Call) → Sound row states moment → GoodStates states → accepts states call ≡ true →
+pub ready : {row : Row} {states : List ℕ} {moment : ℕ → ℕ} (call : Call) → Sound row states moment → GoodStates states →
+    accepts states call ≡ true →
     Ready (call .event) (row .slots) (row .front) (call .frame)
 ready {row} {states} call sound good e =
     record {
@@ -53,13 +55,19 @@ once-then states call list good e once frame =
     let inside : call .frame < length states = omega (arith, accepted states call e .small, good .long) in
     rw (states-accepted states call e)
     (by-cases (eqb (call .frame) frame)
-    (λ same. rw (← eqb-true (call .frame) frame same, getD-set-same states (call .frame) (tableAt (stateOf states (call .frame)) (call .event)) absent inside)
+    (λ same. rw (
+      ← eqb-true (call .frame) frame same,
+      getD-set-same states (call .frame)
+          (tableAt (stateOf states (call .frame)) (call .event)) absent inside,
+    )
     (times-then (call .event) (call .frame) list (once (call .frame) ∙ fx .was) ∙ sym (fx .becomes)))
     (λ other. let ne : call .frame ≡ frame → ⊥ = eqb-false (call .frame) frame other in
-    rw (getD-set-other states (call .frame) frame (tableAt (stateOf states (call .frame)) (call .event)) absent (λ back. ne (sym back)))
+    rw (getD-set-other states (call .frame) frame (tableAt (stateOf states (call .frame)) (call .event)) absent
+    (λ back. ne (sym back)))
     (times-then-other (call .event) (call .frame) frame list ne ∙ once frame)))
 
-pub sound-accepted : {row : Row} {states : List ℕ} {m : ℕ → ℕ} (n : ℕ → ℕ) (call : Call) → Sound row states m → GoodStates states → accepts states call ≡ true →
+pub sound-accepted : {row : Row} {states : List ℕ} {m : ℕ → ℕ} (n : ℕ → ℕ) (call : Call) → Sound row states m →
+    GoodStates states → accepts states call ≡ true →
     Later (call .event) (call .frame) m n → Sound (moved row call) (statesThen states call) n
 unfolding moved
 sound-accepted {row} {states} {m} n call sound good e later =
@@ -70,11 +78,18 @@ sound-accepted {row} {states} {m} n call sound good e later =
       number = rw (sound .sameStates);
       fits = refits step;
       once = λ frame. rw (step .holds) (once-then states call (framesIn (row .slots)) good e (sound .once) frame);
-      many = rw (step .holds) (omega (arith, length-then (call .event) (call .frame) (framesIn (row .slots)) before, held-then states call good e, sound .many));
+      many = rw (step .holds)
+          (omega (
+            arith,
+            length-then (call .event) (call .frame) (framesIn (row .slots)) before,
+            held-then states call good e,
+            sound .many,
+          ));
       order = rw (step .holds) (recent-then (call .event) (call .frame) m n (framesIn (row .slots)) before later (sound .order));
     }
 
-pub sound-refused : {row : Row} {states : List ℕ} {m : ℕ → ℕ} (n : ℕ → ℕ) → ((frame : ℕ) → n frame ≡ m frame) → Sound row states m → Sound row states n
+pub sound-refused : {row : Row} {states : List ℕ} {m : ℕ → ℕ} (n : ℕ → ℕ) → ((frame : ℕ) → n frame ≡ m frame) →
+    Sound row states m → Sound row states n
 sound-refused {row} {states} {m} n same sound =
     record {
       sameStates = sound .sameStates;

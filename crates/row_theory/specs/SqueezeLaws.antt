@@ -1,5 +1,6 @@
--- A call that squeezes leaves its row packed (docs/RULES.md, W3, W4): the touched frame is out of its slot before the squeeze counts the frames,
--- so they fill all slots from the front on. The order of the two steps matters here and nowhere else in these laws.
+-- A call that squeezes leaves its row packed (docs/RULES.md, W3, W4): the touched frame is out of its slot before the squeeze
+-- counts the frames, so they fill all slots from the front on. The order of the two steps matters here and nowhere else in
+-- these laws.
 use Prim.Native.Nat.{ℕ, zero, suc, _+_, _<_, _≤_, suc-le-suc, zero-le}
 use native.Mathlib.Nat.{not-suc-le-zero, le-of-suc-le-suc}
 use native.Mathlib.Omega.{arith}

@@ -1,4 +1,5 @@
--- Laws of the state table and of the list of states (definitions: States). The table's rule is proved once, over all of its fifteen entries.
+-- Laws of the state table and of the list of states (definitions: States). The table's rule is proved once, over all of its
+-- fifteen entries.
 use Prim.Native.Nat.{ℕ, zero, suc, _+_, _<_, _≤_}
 use native.Mathlib.Nat.{not-suc-le-zero, le-of-suc-le-suc}
 use native.Mathlib.Omega.{arith}
@@ -10,7 +11,8 @@ use lib.ListN.{length, getD, set}
 use borrow.Author.Tests.{leb-true, leb-false, ltb-false, ltb-true}
 use Rattle.rules.specs.Limits.{frames, held}
 use Rattle.rules.specs.Refusals.{badFrame, rowFull}
-use Rattle.row_theory.specs.States.{Call, absent, idle, busy, tableAt, stateOf, heldBit, heldIn, ruleOf, isPut, verdictOf, accepts}
+use Rattle.row_theory.specs.States.{Call, absent, idle, busy, tableAt, stateOf, heldBit, heldIn, ruleOf, isPut, verdictOf}
+use Rattle.row_theory.specs.States.{accepts}
 use Rattle.rules.specs.Cases.{by-cases}
 use Rattle.row_theory.specs.declared.Event.{Event}
 use Rattle.row_theory.specs.declared.Event.the-variants.{Put, Touch, Start, End, Drop}
@@ -57,10 +59,13 @@ bitLater Drop = 0
 abbrev EffectAt : Event → ℕ → Type 0
 EffectAt event s = tableAt s event ≤ busy → Effect (bitBefore event) (bitLater event) s (tableAt s event)
 
-pub effect : (event : Event) (state : ℕ) → state ≤ busy → tableAt state event ≤ busy → Effect (bitBefore event) (bitLater event) state (tableAt state event)
+pub effect : (event : Event) (state : ℕ) → state ≤ busy → tableAt state event ≤ busy →
+    Effect (bitBefore event) (bitLater event) state (tableAt state event)
 unfolding tableAt heldBit
 effect Put = each-state (EffectAt Put) (λ h. record { was = refl; becomes = refl }) (λ h. omega arith) (λ h. omega arith)
-effect Touch = each-state (EffectAt Touch) (λ h. omega arith) (λ h. record { was = refl; becomes = refl }) (λ h. record { was = refl; becomes = refl })
+effect Touch =
+    each-state (EffectAt Touch) (λ h. omega arith) (λ h. record { was = refl; becomes = refl })
+    (λ h. record { was = refl; becomes = refl })
 effect Start = each-state (EffectAt Start) (λ h. omega arith) (λ h. record { was = refl; becomes = refl }) (λ h. omega arith)
 effect End = each-state (EffectAt End) (λ h. omega arith) (λ h. omega arith) (λ h. record { was = refl; becomes = refl })
 effect Drop = each-state (EffectAt Drop) (λ h. omega arith) (λ h. record { was = refl; becomes = refl }) (λ h. omega arith)
@@ -94,7 +99,8 @@ pub record Acceptance (states : List ℕ) (call : Call) : Type 0 where
   pub room : isPut (call .event) ≡ true → heldIn states < held
 
 -- no test of the order of refusals stands against an accepted call
-passed : (b₁ b₂ b₃ : Bool) (cell : ℕ) → (b₂ ≡ true → busy < cell) → cond b₁ badFrame (cond b₂ cell (cond b₃ rowFull cell)) ≤ busy →
+passed : (b₁ b₂ b₃ : Bool) (cell : ℕ) → (b₂ ≡ true → busy < cell) →
+    cond b₁ badFrame (cond b₂ cell (cond b₃ rowFull cell)) ≤ busy →
     (b₁ ≡ false) × (b₂ ≡ false) × (b₃ ≡ false)
 passed true b₂ b₃ cell h low = absurd (omega arith)
 passed false true b₃ cell h low = absurd (omega (arith, h refl))
@@ -119,7 +125,8 @@ unfolding heldBit
 heldBit-small state = by-cases (eqb state absent) (λ e. rw e (omega arith)) (λ e. rw e (omega arith))
 
 -- storing a state changes the number held by the two held bits
-pub heldIn-set : (states : List ℕ) (i next : ℕ) → i < length states → heldIn (set states i next) + heldBit (getD states i 0) ≡ heldIn states + heldBit next
+pub heldIn-set : (states : List ℕ) (i next : ℕ) → i < length states →
+    heldIn (set states i next) + heldBit (getD states i 0) ≡ heldIn states + heldBit next
 unfolding heldIn
 heldIn-set [] i next h = absurd (not-suc-le-zero h)
 heldIn-set (s ∷ states) zero next h = omega arith

@@ -78,7 +78,8 @@ moves Start = false
 moves End = false
 moves Drop = false
 
--- O6, the verdict on a call: 20, then a refusal of the table, then 25; and if none applies the state that the table gives its frame
+-- O6, the verdict on a call: 20, then a refusal of the table, then 25; and if none applies the state that the table gives its
+-- frame
 unfoldable pub verdictOf : List ℕ → Call → ℕ
 verdictOf states call =
     let next = tableAt (stateOf states (call .frame)) (call .event) in

@@ -26,7 +26,8 @@ use Rattle.row_theory.specs.SqueezeLaws.{packed-after}
 use Rattle.row_theory.specs.VictimLaws.{oldestNow, oldest-victim, oldest-no-victim}
 use Rattle.row_theory.specs.declared.Victim.the-variants.{Given}
 
--- W6: the table in the rules' own numbers, where 0 is absent, 1 idle and 2 busy; and the numbers that stand outside it (R20, R25 to R27)
+-- W6: the table in the rules' own numbers, where 0 is absent, 1 idle and 2 busy; and the numbers that stand outside it (R20,
+-- R25 to R27)
 pub table-numbers : stateTable ≡
     (1 ∷ 22 ∷ 22 ∷ 22 ∷ 22 ∷ [])
     ∷ (21 ∷ 1 ∷ 2 ∷ 24 ∷ 0 ∷ [])
@@ -38,7 +39,8 @@ pub other-numbers : badFrame ∷ rowFull ∷ nothingHeld ∷ allBusy ∷ [] ≡ 
 other-numbers = refl
 
 -- W1: the slots hold exactly the held frames, each once
-pub slots-hold : (history : List Call) (frame : ℕ) → frame < frames → times frame (rowAfter history .slots) ≡ heldBit (stateOf (statesAfter history) frame)
+pub slots-hold : (history : List Call) (frame : ℕ) → frame < frames →
+    times frame (rowAfter history .slots) ≡ heldBit (stateOf (statesAfter history) frame)
 slots-hold history frame h = sym (times-framesIn frame (rowAfter history .slots) h) ∙ sound-after history .once frame
 
 -- W1: most recent first
@@ -53,7 +55,8 @@ slots-clear history = sound-after history .fits .clear
 pub held-few : (history : List Call) → heldIn (statesAfter history) ≤ held
 held-few history = good-after history .few
 
--- W3, W4: after a call that squeezed, front and frames held add up to the number of slots, and the frames are packed against the last slot
+-- W3, W4: after a call that squeezed, front and frames held add up to the number of slots, and the frames are packed against
+-- the last slot
 pub squeeze-packs : (call : Call) (history : List Call) → examinedOf (replyOf (rowAfter history) call) ≡ slots →
     PackedRow (rowAfter (call ∷ history))
 squeeze-packs call history examined = packed-after call history examined
@@ -89,18 +92,28 @@ busy-no-victim history may frame isBusy given =
     omega (arith, says .mayGo .0)
 
 -- D1: and never dropped: whatever the call, a busy frame is not absent after it
-pub busy-kept : (call : Call) (history : List Call) (frame : ℕ) → stateOf (statesAfter history) frame ≡ busy → stateOf (statesAfter (call ∷ history)) frame ≡ absent → ⊥
+pub busy-kept : (call : Call) (history : List Call) (frame : ℕ) → stateOf (statesAfter history) frame ≡ busy →
+    stateOf (statesAfter (call ∷ history)) frame ≡ absent → ⊥
 unfolding statesAfter
 busy-kept call history frame isBusy gone =
     by-cases (accepts (statesAfter history) call)
     (λ e. by-cases (eqb frame (call .frame))
     (λ same. let eq : frame ≡ call .frame = eqb-true frame (call .frame) same in
-    let inside : call .frame < length (statesAfter history) = omega (arith, accepted (statesAfter history) call e .small, good-after history .long) in
+    let inside : call .frame < length (statesAfter history) = omega
+    (arith, accepted (statesAfter history) call e .small, good-after history .long) in
     let was : stateOf (statesAfter history) (call .frame) ≡ busy = rw (← eq) isBusy in
     busy-stays (call .event)
-    (rw (states-accepted (statesAfter history) call e, eq, getD-set-same (statesAfter history) (call .frame) (tableAt (stateOf (statesAfter history) (call .frame)) (call .event)) absent inside, was) at gone))
+    (rw (
+      states-accepted (statesAfter history) call e,
+      eq,
+      getD-set-same (statesAfter history) (call .frame)
+          (tableAt (stateOf (statesAfter history) (call .frame)) (call .event)) absent inside,
+      was,
+    ) at gone))
     (λ other. let same-state : stateOf (statesThen (statesAfter history) call) frame ≡ stateOf (statesAfter history) frame =
-    rw (states-accepted (statesAfter history) call e) (getD-set-other (statesAfter history) (call .frame) frame (tableAt (stateOf (statesAfter history) (call .frame)) (call .event)) absent (eqb-false frame (call .frame) other)) in
+    rw (states-accepted (statesAfter history) call e)
+    (getD-set-other (statesAfter history) (call .frame) frame
+    (tableAt (stateOf (statesAfter history) (call .frame)) (call .event)) absent (eqb-false frame (call .frame) other)) in
     omega arith))
     (λ e. omega (arith, ap (λ (l : List ℕ). stateOf l frame) (states-refused (statesAfter history) call e)))
 

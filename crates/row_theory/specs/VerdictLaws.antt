@@ -9,7 +9,8 @@ use lib.ListN.{set}
 use borrow.Author.Tests.{eq-eqb, ne-eqb, lt-ltb, le-ltb, lt-leb, le-leb}
 use Rattle.rules.specs.Limits.{frames, held}
 use Rattle.rules.specs.Refusals.{badFrame, rowFull}
-use Rattle.row_theory.specs.States.{Call, absent, busy, tableAt, stateOf, heldIn, isPut, verdictOf, refusalOf, accepts, statesThen}
+use Rattle.row_theory.specs.States.{Call, absent, busy, tableAt, stateOf, heldIn, isPut, verdictOf, refusalOf, accepts}
+use Rattle.row_theory.specs.States.{statesThen}
 use Rattle.row_theory.specs.Slots.{slotsThen, frontThen, examinedThen}
 use Rattle.row_theory.specs.Row.{Row, moved, after, replyOf}
 use Rattle.row_theory.specs.Promise.{rowWith, asked}
@@ -54,7 +55,8 @@ reply-accepted : (row : Row) (call : Call) → accepts (row .states) call ≡ tr
 unfolding replyOf
 reply-accepted row call ok = rw ok
 
-pub accepted-verdict : (row : Row) (event : Event) (frame : ℕ) → Ordered row → verdictOf (row .states) (asked event frame) ≤ busy →
+pub accepted-verdict : (row : Row) (event : Event) (frame : ℕ) → Ordered row →
+    verdictOf (row .states) (asked event frame) ≤ busy →
     Accepting row event frame (verdictOf (row .states) (asked event frame))
 accepted-verdict row event frame order low =
     let call = asked event frame in

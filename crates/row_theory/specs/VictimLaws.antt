@@ -1,4 +1,5 @@
--- The victim after any calls (docs/RULES.md, W7): the frames that may go stand in the slots, and the oldest of them has the earliest moment.
+-- The victim after any calls (docs/RULES.md, W7): the frames that may go stand in the slots, and the oldest of them has the
+-- earliest moment.
 use Prim.Native.Nat.{ℕ, _<_, _≤_}
 use native.Mathlib.Omega.{arith}
 use mathlib.Core.Path.{_≡_}

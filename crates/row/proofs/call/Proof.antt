@@ -44,7 +44,11 @@ add-held : tie.Need-add-held
 add-held c =
     let allowed = c .before .before .before .before .before .before in
     let judged = allowed .before in
-    omega (arith, call-countable _ _ (judged .before .before .before .pre) (judged .verdict .ensures) (allowed .if1 .left) .0, c .held-bit .ensures)
+    omega (
+      arith,
+      call-countable _ _ (judged .before .before .before .pre) (judged .verdict .ensures) (allowed .if1 .left) .0,
+      c .held-bit .ensures,
+    )
 
 held-bit-requires-2 : tie.Need-held-bit-requires-2
 held-bit-requires-2 c κs = search needs
@@ -53,7 +57,11 @@ sub-held : tie.Need-sub-held
 sub-held c =
     let allowed = c .before .before .before .before .before .before .before in
     let judged = allowed .before in
-    omega (arith, call-countable _ _ (judged .before .before .before .pre) (judged .verdict .ensures) (allowed .if1 .left) .1, c .held-bit2 .ensures)
+    omega (
+      arith,
+      call-countable _ _ (judged .before .before .before .pre) (judged .verdict .ensures) (allowed .if1 .left) .1,
+      c .held-bit2 .ensures,
+    )
 
 returns-2 : tie.Need-returns-2
 returns-2 c =
@@ -61,7 +69,12 @@ returns-2 c =
     let judged = allowed .before in
     let shifted = c .before .before .before in
     call-done _ _ (judged .before .before .before .pre) (judged .verdict .ensures) (allowed .if1 .left) (shifted .shift .ensures)
-    (omega (arith, call-countable _ _ (judged .before .before .before .pre) (judged .verdict .ensures) (allowed .if1 .left) .1, c .before .held-bit .ensures, c .held-bit2 .ensures))
+    (omega (
+      arith,
+      call-countable _ _ (judged .before .before .before .pre) (judged .verdict .ensures) (allowed .if1 .left) .1,
+      c .before .held-bit .ensures,
+      c .held-bit2 .ensures,
+    ))
 
 pub call-spec : {M : Type 1} → statement M
 call-spec =

@@ -1,17 +1,8 @@
--- `row::victim_among` meets its contract. The invariant is `Looked`: no frame that may be given up from this slot on; the measure is the slots
--- still to look at. Assumes nothing.
+-- `row::victim_among` meets its contract. The invariant is `Looked`: no frame that may be given up from this slot on; the
+-- measure is the slots still to look at. Assumes nothing.
 use native.Mathlib.Omega.{arith}
-use Rattle.row_theory.specs.Scan.{
-  Looked,
-  look-start,
-  look-past-empty,
-  look-past-state,
-  look-past-mark,
-  look-found,
-  look-nothing,
-  look-busy,
-  reached-long,
-}
+use Rattle.row_theory.specs.Scan.{Looked, look-start, look-past-empty, look-past-state, look-past-mark, look-found}
+use Rattle.row_theory.specs.Scan.{look-nothing, look-busy, reached-long}
 use Rattle.row.proofs.victim_among.Statement.{statement}
 use Rattle.row.proofs.victim_among.Tie as tie
 
