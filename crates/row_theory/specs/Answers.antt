@@ -3,14 +3,13 @@
 use Prim.Native.Nat.{ℕ, _<_}
 use native.Mathlib.Omega.{arith}
 use mathlib.Core.Path.{_≡_, sym, _∙_, ap}
-use mathlib.Core.Bool.{Bool, false, false≢true}
+use mathlib.Core.Bool.{Bool, false}
 use mathlib.Core.List.{List}
 use lib.Dec.{leb, ltb, eqb}
 use lib.ListN.{List·getD-eq-default}
 use borrow.Author.Tests.{leb-false, ltb-false, ne-eqb}
 use Rattle.rules.specs.Limits.{frames}
 use Rattle.rules.specs.Cases.{by-cases}
-use Rattle.rules.specs.declared.Refusal.{Refusal}
 use Rattle.row_theory.specs.States.{Call, absent, busy, stateOf, verdictOf, refusalOf, accepts}
 use Rattle.row_theory.specs.Row.{Row, replyNumber, replyPlace}
 use Rattle.row_theory.specs.History.{statesAfter}
@@ -20,7 +19,6 @@ use Rattle.row_theory.specs.PromiseLaws.{number-of-reply, place-of-reply
 use Rattle.row_theory.specs.GoodStates.{good-after}
 use Rattle.row_theory.specs.SoundRow.{sound-after, after-refused}
 use Rattle.row_theory.specs.declared.Reply.{Reply}
-use Rattle.row_theory.specs.declared.Reply.the-variants.{Done, Refused}
 use Rattle.row_theory.specs.declared.Victim.{Victim}
 
 module _ {m m′ : Memory} {call : Call} {reply : Reply} where

@@ -10,10 +10,10 @@ use lib.ListN.{length, set, length-set}
 use borrow.Author.Tests.{eqb-false}
 use Rattle.rules.specs.Limits.{frames, slots, held}
 use Rattle.rules.specs.Cases.{by-cases}
-use Rattle.row_theory.specs.Slots.{framesIn, emptied, vacated, squeezedFront, roomySlots, roomyFront}
 use Rattle.rules.specs.Lists.{without}
+use Rattle.row_theory.specs.Slots.{Clear, framesIn, emptied, vacated, roomySlots, roomyFront}
 use Rattle.row_theory.specs.RecentLaws.{fewer}
-use Rattle.row_theory.specs.SlotLaws.{Clear, squeezedFront-rest, framesIn-emptied, emptied-length, emptied-clear}
+use Rattle.row_theory.specs.SlotLaws.{squeezedFront-rest, framesIn-emptied, emptied-length, emptied-clear}
 use Rattle.row_theory.specs.SlotLaws.{framesIn-squeezed, squeezed-length, squeezed-clear, framesIn-set, set-clear}
 use Rattle.row_theory.specs.declared.Event.{Event}
 use Rattle.row_theory.specs.declared.Event.the-variants.{Put, Touch, Start, End, Drop}

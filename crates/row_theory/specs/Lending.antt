@@ -6,7 +6,8 @@ use lib.ListN.{length, set}
 use Rattle.rules.specs.Limits.{frames, held}
 use Rattle.rules.specs.Limits
 use Rattle.rules.specs.Lists.{times}
-use Rattle.row_theory.specs.Slots.{framesIn, emptied, squeezedFront, squeezed, placesIn, roomySlots, roomyFront, slotsThen, frontThen, examinedThen}
+use Rattle.row_theory.specs.Slots.{framesIn, emptied, squeezedFront, squeezed, placesIn, roomySlots, roomyFront}
+use Rattle.row_theory.specs.Slots.{slotsThen, frontThen, examinedThen}
 use Rattle.row_theory.specs.Holding.{Holding}
 use Rattle.row_theory.specs.StepLaws.{Ready}
 use Rattle.row_theory.specs.declared.Event.{Event}

@@ -7,9 +7,9 @@ use lib.ListN.{length, getD, set}
 use borrow.Author.Tests.{eq-eqb, ne-eqb}
 use Rattle.rules.specs.Limits.{frames, slots}
 use Rattle.rules.specs.Lists.{times}
-use Rattle.row_theory.specs.Slots.{empty, emptied, squeezedFront, squeezed, slotOf, placesIn}
+use Rattle.row_theory.specs.Slots.{Clear, empty, squeezedFront, squeezed, slotOf, placesIn}
 use Rattle.row_theory.specs.Slots.{roomySlots, roomyFront, examinedThen}
-use Rattle.row_theory.specs.SlotLaws.{Clear, framesIn-squeezed, times-framesIn}
+use Rattle.row_theory.specs.SlotLaws.{framesIn-squeezed, times-framesIn}
 use Rattle.row_theory.specs.SlotLaws.{squeezedFront-rest, squeezed-length, squeezed-clear}
 use Rattle.row_theory.specs.StateLaws.{heldBit-small}
 use Rattle.row_theory.specs.PlaceLaws.{placesIn-at, slotOf-inside, slotOf-there, emptied-place, places-out, places-in}
@@ -18,7 +18,8 @@ use Rattle.row_theory.specs.PromiseLaws.{Ordered}
 use Rattle.row_theory.specs.Row.{Row}
 
 -- W4: emptying a frame's slot: what it reads, and what it leaves
-module _ {row places : List ℕ} {frame : ℕ} (indexed : Indexed row places) (small : frame < frames) (once : times frame row ≡ 1) where
+module _ {row places : List ℕ} {frame : ℕ} (indexed : Indexed row places) (small : frame < frames)
+    (once : times frame row ≡ 1) where
   some : 0 < times frame row
   some = omega arith
 
@@ -43,8 +44,8 @@ module _ {row places : List ℕ} {frame : ℕ} (indexed : Indexed row places) (s
       }
 
 -- W2: a frame that takes the last of the clear slots below a front above 0
-taken : (row : List ℕ) (front frame : ℕ) → frame < frames → 0 < front → front ≤ length row → Clear front row → times frame row ≡ 0 →
-    set (placesIn row) frame (front - 1) ≡ placesIn (set row (front - 1) frame)
+taken : (row : List ℕ) (front frame : ℕ) → frame < frames → 0 < front → front ≤ length row → Clear front row →
+    times frame row ≡ 0 → set (placesIn row) frame (front - 1) ≡ placesIn (set row (front - 1) frame)
 taken row front frame small above inside clear out =
     let there : getD row (front - 1) empty ≡ empty = clear (front - 1) (omega arith) in
     sym (places-in row (front - 1) frame empty small (omega arith) (omega arith) out)

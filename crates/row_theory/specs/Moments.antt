@@ -7,9 +7,9 @@ use mathlib.Core.List.{List, [], _∷_}
 use lib.Dec.{eqb}
 use lib.ListN.{length}
 use borrow.Author.Tests.{eq-eqb, ne-eqb}
+use Rattle.rules.specs.Cases.{by-cases}
 use Rattle.row_theory.specs.States.{Call, accepts}
 use Rattle.row_theory.specs.History.{statesAfter, movesLast, momentAfter}
-use Rattle.rules.specs.Cases.{by-cases}
 use Rattle.row_theory.specs.RecentLaws.{Later}
 
 -- no moment is later than now

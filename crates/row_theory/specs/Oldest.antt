@@ -9,9 +9,9 @@ use lib.Dec.{ltb, eqb}
 use borrow.Author.Tests.{eqb-true, eqb-false, lt-ltb, le-ltb, ltb-true, ltb-false}
 use Rattle.rules.specs.Limits.{frames}
 use Rattle.rules.specs.Lists.{times}
+use Rattle.rules.specs.Cases.{by-cases}
 use Rattle.row_theory.specs.Slots.{empty, framesIn, passes, older, oldest}
 use Rattle.row_theory.specs.Runs.{Earlier, Recent}
-use Rattle.rules.specs.Cases.{by-cases}
 use Rattle.row_theory.specs.Counting.{and-left, times-cons, times-same, times-other}
 use Rattle.row_theory.specs.SlotLaws.{framesIn-frame, framesIn-empty}
 
@@ -47,15 +47,17 @@ older-young old young h = rw (le-ltb old frames h)
 pub oldest-behind : (may : ℕ → Bool) (x : ℕ) (row : List ℕ) → oldest may row < frames → oldest may (x ∷ row) ≡ oldest may row
 oldest-behind may x row h = oldest-cons may x row ∙ older-old (oldest may row) (cond (passes may x) x empty) h
 
+oldest-last : (may : ℕ → Bool) (x : ℕ) (row : List ℕ) → frames ≤ oldest may row →
+    oldest may (x ∷ row) ≡ cond (passes may x) x empty
+oldest-last may x row h = oldest-cons may x row ∙ older-young (oldest may row) (cond (passes may x) x empty) h
+
 pub oldest-here : (may : ℕ → Bool) (x : ℕ) (row : List ℕ) → frames ≤ oldest may row → passes may x ≡ true →
     oldest may (x ∷ row) ≡ x
-oldest-here may x row h e =
-    oldest-cons may x row ∙ older-young (oldest may row) (cond (passes may x) x empty) h ∙ ap (λ (b : Bool). cond b x empty) e
+oldest-here may x row h e = oldest-last may x row h ∙ rw e
 
 pub oldest-not : (may : ℕ → Bool) (x : ℕ) (row : List ℕ) → frames ≤ oldest may row → passes may x ≡ false →
     oldest may (x ∷ row) ≡ empty
-oldest-not may x row h e =
-    oldest-cons may x row ∙ older-young (oldest may row) (cond (passes may x) x empty) h ∙ ap (λ (b : Bool). cond b x empty) e
+oldest-not may x row h e = oldest-last may x row h ∙ rw e
 
 -- where no frame passes, the answer is `empty`
 pub oldest-none-empty : (may : ℕ → Bool) (row : List ℕ) → frames ≤ oldest may row → oldest may row ≡ empty

@@ -51,7 +51,8 @@ module _ (row : List ℕ) (i gap : ℕ) (inside : i < length row) where
   pass-empty none = open-slot ∙ rw (drop-cons row i 0 inside, framesIn-empty (getD row i 0) (drop (suc i) row) none)
 
   -- it held a frame, which goes to the end of the gap
-  pub pass-frame : getD row i 0 < frames → set (set (packing (suc i) gap row) i empty) (i + gap) (getD row i 0) ≡ packing i gap row
+  pub pass-frame : getD row i 0 < frames →
+      set (set (packing (suc i) gap row) i empty) (i + gap) (getD row i 0) ≡ packing i gap row
   unfolding packing
   pass-frame small =
       let x = getD row i 0 in

@@ -49,7 +49,8 @@ from-frame : (x old : ℕ) (before later : ℕ) → x < frames → later + cond 
 from-frame x old before later small e = omega (arith, rw (ne-eqb empty x (λ same. omega arith)) at e)
 
 -- one slot down
-module _ {row₀ row places : List ℕ} {to : ℕ} (i : ℕ) (long₀ : length row₀ ≡ slots) (pack : Packing row₀ row places to (suc i)) where
+module _ {row₀ row places : List ℕ} {to : ℕ} (i : ℕ) (long₀ : length row₀ ≡ slots)
+    (pack : Packing row₀ row places to (suc i)) where
   there : i < length row₀
   there = omega (arith, pack .below, pack .inside)
 
@@ -147,7 +148,8 @@ module _ {row₀ row places : List ℕ} {to : ℕ} (i : ℕ) (long₀ : length r
         }
 
 -- the pass goes from the slot above to the slot
-module _ {row₀ row places : List ℕ} {to j : ℕ} (long₀ : length row₀ ≡ slots) (pack : Packing row₀ row places to j) (some : 0 < j) where
+module _ {row₀ row places : List ℕ} {to j : ℕ} (long₀ : length row₀ ≡ slots) (pack : Packing row₀ row places to j)
+    (some : 0 < j) where
   above : Packing row₀ row places to (suc (j - 1))
   above = subst (λ (n : ℕ). Packing row₀ row places to n) (omega arith) pack
 

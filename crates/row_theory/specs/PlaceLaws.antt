@@ -10,8 +10,8 @@ use lib.Seq.{getD-set-same, getD-set-other, ext-getD}
 use borrow.Author.Tests.{eq-eqb, ne-eqb, eqb-true, eqb-false}
 use Rattle.rules.specs.Limits.{frames}
 use Rattle.rules.specs.Lists.{times}
-use Rattle.row_theory.specs.Slots.{empty, emptied, slotOf, placesFrom, placesIn}
 use Rattle.rules.specs.Cases.{by-cases}
+use Rattle.row_theory.specs.Slots.{empty, emptied, slotOf, placesFrom, placesIn}
 use Rattle.row_theory.specs.Counting.{times-set}
 
 places-length : (n k : ℕ) (row : List ℕ) → length (placesFrom n k row) ≡ k
@@ -87,12 +87,8 @@ places-set before later x p small here others =
     ext-getD 0 (placesIn later) (set (placesIn before) x p) (simp (placesIn-length, length-set))
     (λ i inside. let low : i < frames = omega (arith, placesIn-length later) in
     by-cases (eqb i x)
-    (λ e. rw (
-      placesIn-at later i low,
-      eqb-true i x e,
-      getD-set-same (placesIn before) x p 0
-          (omega (arith, placesIn-length before)),
-    ) here)
+    (λ e. let there : x < length (placesIn before) = omega (arith, placesIn-length before) in
+    rw (placesIn-at later i low, eqb-true i x e, getD-set-same (placesIn before) x p 0 there) here)
     (λ e. let ne : i ≡ x → ⊥ = eqb-false i x e in
     rw (placesIn-at later i low, getD-set-other (placesIn before) x i p 0 ne, placesIn-at before i low) (others i low ne)))
 

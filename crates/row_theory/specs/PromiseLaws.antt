@@ -3,13 +3,13 @@ use Prim.Native.Nat.{ℕ}
 use mathlib.Core.Path.{_≡_, sym, _∙_, ap, subst, subst₂}
 use mathlib.Core.Bool.{Bool}
 use mathlib.Core.List.{List, [], _∷_}
+use Rattle.rules.specs.Cases.{by-cases}
 use Rattle.row_theory.specs.States.{Call, refusalOf, accepts}
 use Rattle.row_theory.specs.Slots.{placesIn}
 use Rattle.row_theory.specs.Row.{Row, emptyRow, after, replyOf, replyNumber, replyPlace, victimAmong}
 use Rattle.row_theory.specs.History.{statesAfter, momentAfter}
 use Rattle.row_theory.specs.Runs.{rowAfter, Reached}
 use Rattle.row_theory.specs.Promise.{Memory, rowIn, Stands, Reply-says, Answered, FreshRow, Oldest-idle}
-use Rattle.rules.specs.Cases.{by-cases}
 use Rattle.row_theory.specs.GoodStates.{GoodStates, good-after}
 use Rattle.row_theory.specs.SoundRow.{Sound, sound-after}
 use Rattle.row_theory.specs.Theorems.{victim-says}
@@ -74,8 +74,8 @@ pub record Ordered (row : Row) : Type 0 where
 pub ordered : {row : Row} → Reached row → Ordered row
 ordered {row} reached =
     let history = reached .history in
-    let same : statesAfter history ≡ row .states = sym (sound-after history .sameStates) ∙ ap (λ (r : Row). r .states)
-    (reached .gives) in
+    let same : statesAfter history ≡ row .states =
+    sym (sound-after history .sameStates) ∙ ap (λ (r : Row). r .states) (reached .gives) in
     record {
       good = subst GoodStates same (good-after history);
       moment = momentAfter history;

@@ -9,9 +9,9 @@ use lib.Dec.{eqb}
 use lib.ListN.{length}
 use borrow.Author.Tests.{eqb-true, eqb-false}
 use Rattle.rules.specs.Lists.{times, without}
+use Rattle.rules.specs.Cases.{by-cases}
 use Rattle.row_theory.specs.States.{moves}
 use Rattle.row_theory.specs.StateLaws.{bitBefore, bitLater}
-use Rattle.rules.specs.Cases.{by-cases}
 use Rattle.row_theory.specs.Counting.{times-cons, times-same, times-other, times-without, times-without-other}
 use Rattle.row_theory.specs.Counting.{times-without-le, length-without, length-without-le}
 use Rattle.row_theory.specs.Runs.{Recent}
@@ -97,9 +97,9 @@ pub record Later (event : Event) (frame : ℕ) (m n : ℕ → ℕ) : Type 0 wher
 recent-head : (frame : ℕ) (m n : ℕ → ℕ) (list : List ℕ) → ((x : ℕ) → m x < n frame) → ((x : ℕ) → (frame ≡ x → ⊥) → n x ≡ m x) →
     times frame list ≡ 0 → Recent m list → Recent n (frame ∷ list)
 unfolding Recent
-recent-head frame m n list latest others fresh order =
-    let agree : (x : ℕ) → 0 < times x list → n x ≡ m x = λ x inside. others x
-    (λ e. omega (arith, ap (λ (y : ℕ). times y list) e)) in
+recent-head frame m n list latest others out order =
+    let agree : (x : ℕ) → 0 < times x list → n x ≡ m x =
+    λ x inside. others x (λ e. omega (arith, ap (λ (y : ℕ). times y list) e)) in
     ((λ y inside. omega (arith, agree y inside, latest y)), recent-same m n list agree order)
 
 -- a call that does not move its frame changes no moment

@@ -5,8 +5,8 @@ use mathlib.Core.Path.{_≡_}
 use mathlib.Core.List.{List, [], _∷_}
 use lib.ListN.{getD}
 use Rattle.rules.specs.Limits.{frames, slots}
-use Rattle.row_theory.specs.States.{Call, tableAt, heldBit, heldIn, verdictOf, refusalOf, accepts, statesThen}
 use Rattle.rules.specs.Lists.{times}
+use Rattle.row_theory.specs.States.{Call, tableAt, heldBit, heldIn, verdictOf, refusalOf, accepts, statesThen}
 use Rattle.row_theory.specs.Slots.{empty, framesIn, emptied, squeezedFront, squeezed, roomySlots, roomyFront, vacated}
 use Rattle.row_theory.specs.Slots.{slotsThen, frontThen, examinedThen, passes, older, oldest}
 use Rattle.row_theory.specs.Row.{Row, emptyRow, moved, after, replyOf, examinedOf, idleAmong, victimAmong, victimOf}

@@ -11,15 +11,14 @@ use lib.Seq.{drop-cons}
 use borrow.Author.Tests.{lt-ltb, le-ltb, eq-eqb, ne-eqb}
 use Rattle.rules.specs.Limits.{frames, slots}
 use Rattle.rules.specs.Refusals.{nothingHeld, allBusy}
+use Rattle.rules.specs.Cases.{by-cases}
 use Rattle.row_theory.specs.States.{idle}
-use Rattle.row_theory.specs.Slots.{empty, passes, oldest}
+use Rattle.row_theory.specs.Slots.{Clear, empty, passes, oldest}
 use Rattle.row_theory.specs.Row.{Row, anyFrame, givable, hasMark, idleAmong, victimAmong}
-use Rattle.row_theory.specs.SlotLaws.{Clear}
 use Rattle.row_theory.specs.Oldest.{oldest-behind, oldest-here, oldest-skip, oldest-same, passes-empty}
 use Rattle.row_theory.specs.Promise.{rowWith, Oldest-idle}
 use Rattle.row_theory.specs.PromiseLaws.{ordered, oldest-idle}
 use Rattle.row_theory.specs.Runs.{Reached}
-use Rattle.rules.specs.Cases.{by-cases}
 use Rattle.row_theory.specs.declared.Victim.{Victim}
 use Rattle.row_theory.specs.declared.Victim.the-variants.{Given, Refused}
 

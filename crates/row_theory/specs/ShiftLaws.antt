@@ -1,7 +1,7 @@
 -- What an accepted call does to lent slots and places, event by event (docs/RULES.md, W2, W4).
 use Prim.Native.Nat.{ℕ, _<_}
 use native.Mathlib.Omega.{arith}
-use mathlib.Core.Path.{_≡_, refl, sym, _∙_, ap, subst, subst₂}
+use mathlib.Core.Path.{_≡_, refl, sym, _∙_, ap}
 use mathlib.Core.List.{List}
 use Rattle.rules.specs.Limits.{frames}
 use Rattle.rules.specs.Lists.{times, without}
@@ -37,7 +37,8 @@ module _ {row places : List ℕ} {front frame : ℕ} where
   drop-once ask = there ask
 
   -- W4: once its slot is emptied, a touched frame can take one as a put frame does
-  touch-seatable : Shiftable Touch row places front frame → Seatable (emptied frame row) (placesIn (emptied frame row)) front frame
+  touch-seatable : Shiftable Touch row places front frame →
+      Seatable (emptied frame row) (placesIn (emptied frame row)) front frame
   touch-seatable ask =
       let small = ask .ready .small in
       let others = without frame (framesIn row) in
@@ -60,11 +61,12 @@ module _ {row places : List ℕ} {front frame : ℕ} where
 
   pub touch-seats : {row₁ places₁ : List ℕ} → Shiftable Touch row places front frame → LeftSlot row frame row₁ places₁ →
       Seatable row₁ places₁ front frame
-  touch-seats ask left = subst₂ (λ (l m : List ℕ). Seatable l m front frame) (sym (left .row)) (sym (left .index)) (touch-seatable ask)
+  touch-seats ask left = rw (left .row, left .index) (touch-seatable ask)
 
 -- what each event leaves
 module _ {row : List ℕ} {front frame examined : ℕ} {row′ places′ : List ℕ} {front′ : ℕ} where
-  pub shifted-put : SeatedNow row front frame examined row′ places′ front′ → Shifted Put row front frame examined row′ places′ front′
+  pub shifted-put : SeatedNow row front frame examined row′ places′ front′ →
+      Shifted Put row front frame examined row′ places′ front′
   unfolding slotsThen frontThen vacated
   shifted-put seat = record { answer = seat .answer; row = seat .row; index = seat .index; mark = seat .mark }
 
@@ -73,11 +75,10 @@ module _ {row : List ℕ} {front frame examined : ℕ} {row′ places′ : List 
   unfolding slotsThen frontThen vacated examinedThen
   shifted-touch seat = record { answer = seat .answer; row = seat .row; index = seat .index; mark = seat .mark }
 
-  pub touched : {row₁ places₁ : List ℕ} → LeftSlot row frame row₁ places₁ → SeatedNow row₁ front frame examined row′ places′ front′ →
+  pub touched : {row₁ places₁ : List ℕ} → LeftSlot row frame row₁ places₁ →
+      SeatedNow row₁ front frame examined row′ places′ front′ →
       Shifted Touch row front frame examined row′ places′ front′
-  touched left seat =
-      let from = subst (λ (l : List ℕ). SeatedNow l front frame examined row′ places′ front′) (left .row) seat in
-      shifted-touch from
+  touched left seat = shifted-touch (rw (left .row) at seat)
 
 pub shifted-start : {row places : List ℕ} {front frame : ℕ} → Shiftable Start row places front frame →
     Shifted Start row front frame 0 row places front
@@ -97,8 +98,9 @@ dropped left = record { answer = refl; row = left .row; index = left .index ∙ 
 -- the event is known by an equation
 pub asks-as : {event known : Event} {row places : List ℕ} {front frame : ℕ} → event ≡ known →
     Shiftable event row places front frame → Shiftable known row places front frame
-asks-as {event} {known} {row} {places} {front} {frame} e ask = subst (λ (v : Event). Shiftable v row places front frame) e ask
+asks-as e ask = rw e at ask
 
-pub leaves-as : {event known : Event} {row : List ℕ} {front frame examined : ℕ} {row′ places′ : List ℕ} {front′ : ℕ} → event ≡ known →
-    Shifted known row front frame examined row′ places′ front′ → Shifted event row front frame examined row′ places′ front′
+pub leaves-as : {event known : Event} {row : List ℕ} {front frame examined : ℕ} {row′ places′ : List ℕ} {front′ : ℕ} →
+    event ≡ known → Shifted known row front frame examined row′ places′ front′ →
+    Shifted event row front frame examined row′ places′ front′
 leaves-as e done = rw e done

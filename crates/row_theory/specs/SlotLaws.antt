@@ -10,13 +10,9 @@ use lib.Seq.{getD-set-other}
 use borrow.Author.Tests.{ne-eqb, eqb-true, lt-ltb, le-ltb, ltb-true, ltb-false}
 use Rattle.rules.specs.Limits.{frames}
 use Rattle.rules.specs.Lists.{times, without}
-use Rattle.row_theory.specs.Slots.{empty, framesIn, emptied, squeezedFront, squeezed}
 use Rattle.rules.specs.Cases.{by-cases}
+use Rattle.row_theory.specs.Slots.{empty, Clear, framesIn, emptied, squeezedFront, squeezed}
 use Rattle.row_theory.specs.Counting.{times-cons, without-same}
-
--- W1: all slots below a mark are empty
-abbrev pub Clear : ℕ → List ℕ → Type 0
-Clear mark row = (i : ℕ) → i < mark → getD row i empty ≡ empty
 
 pub framesIn-frame : (x : ℕ) (row : List ℕ) → x < frames → framesIn (x ∷ row) ≡ x ∷ framesIn row
 unfolding framesIn

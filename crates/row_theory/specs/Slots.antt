@@ -1,10 +1,11 @@
 -- The slots of the row (docs/RULES.md, W1 to W5, W7; Hoogerwoord 1992, section 1): emptying a slot, squeezing, taking a slot,
 -- the oldest frame.
-use Prim.Native.Nat.{ℕ, zero, suc, _+_, _-_}
+use Prim.Native.Nat.{ℕ, zero, suc, _-_, _<_}
+use mathlib.Core.Path.{_≡_}
 use mathlib.Core.Bool.{Bool, cond, _&&_}
 use mathlib.Core.List.{List, [], _∷_, _++_}
 use lib.Dec.{ltb, eqb}
-use lib.ListN.{length, set, replicate}
+use lib.ListN.{length, getD, set, replicate}
 use Rattle.rules.specs.Limits.{frames, slots}
 use Rattle.row_theory.specs.States.{moves}
 use Rattle.row_theory.specs.declared.Event.{Event}
@@ -18,6 +19,10 @@ empty = frames
 unfoldable pub framesIn : List ℕ → List ℕ
 framesIn [] = []
 framesIn (x ∷ row) = cond (ltb x frames) (x ∷ framesIn row) (framesIn row)
+
+-- W1: all slots below a front mark are empty
+abbrev pub Clear : ℕ → List ℕ → Type 0
+Clear mark row = (i : ℕ) → i < mark → getD row i empty ≡ empty
 
 -- W4: the frame's slot emptied
 unfoldable pub emptied : ℕ → List ℕ → List ℕ

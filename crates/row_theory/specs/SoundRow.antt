@@ -1,5 +1,5 @@
 -- The row after any calls from a fresh one (docs/RULES.md, W1 to W4): it agrees with the history in all that the history says.
-use Prim.Native.Nat.{ℕ, zero, suc, _<_, _≤_, zero-le}
+use Prim.Native.Nat.{ℕ, zero, suc, zero-le}
 use native.Mathlib.Nat.{le-refl}
 use native.Mathlib.Omega.{arith}
 use mathlib.Core.Path.{_≡_, refl, sym, _∙_}
@@ -7,22 +7,22 @@ use mathlib.Core.Bool.{true, false}
 use mathlib.Core.List.{List, [], _∷_}
 use lib.Dec.{eqb}
 use lib.ListN.{length, getD, replicate}
-use lib.Seq.{getD-set-same, getD-set-other}
 use borrow.Author.Tests.{eqb-true, eqb-false}
 use Rattle.rules.specs.Limits.{frames, slots, held}
-use Rattle.row_theory.specs.States.{Call, absent, tableAt, stateOf, heldBit, heldIn, accepts, statesThen, freshStates}
 use Rattle.rules.specs.Lists.{times}
+use Rattle.rules.specs.Cases.{by-cases}
+use Rattle.row_theory.specs.States.{Call, absent, stateOf, heldBit, heldIn, accepts, statesThen, freshStates}
 use Rattle.row_theory.specs.Slots.{empty, framesIn}
 use Rattle.row_theory.specs.Row.{Row, emptyRow, moved, after}
 use Rattle.row_theory.specs.History.{statesAfter, momentAfter}
 use Rattle.row_theory.specs.Runs.{rowAfter, Recent}
-use Rattle.rules.specs.Cases.{by-cases}
 use Rattle.row_theory.specs.StateLaws.{accepted, bitBefore}
 use Rattle.row_theory.specs.Holding.{Holding, refits}
 use Rattle.row_theory.specs.RecentLaws.{recentThen, times-then, times-then-other, length-then, Later, recent-then}
 use Rattle.row_theory.specs.RecentLaws.{recent-same}
 use Rattle.row_theory.specs.StepLaws.{Ready, slot-step}
-use Rattle.row_theory.specs.GoodStates.{GoodStates, good-after, states-accepted, states-refused, call-effect, held-then}
+use Rattle.row_theory.specs.GoodStates.{GoodStates, good-after, states-refused, state-same, state-other, call-effect}
+use Rattle.row_theory.specs.GoodStates.{held-then}
 use Rattle.row_theory.specs.Moments.{later-accepted, moment-refused}
 
 -- a row that agrees with these states and these moments
@@ -36,8 +36,7 @@ pub record Sound (row : Row) (states : List ℕ) (moment : ℕ → ℕ) : Type 0
 
 -- an accepted call finds the slots in order
 pub ready : {row : Row} {states : List ℕ} {moment : ℕ → ℕ} (call : Call) → Sound row states moment → GoodStates states →
-    accepts states call ≡ true →
-    Ready (call .event) (row .slots) (row .front) (call .frame)
+    accepts states call ≡ true → Ready (call .event) (row .slots) (row .front) (call .frame)
 ready {row} {states} call sound good e =
     record {
       small = accepted states call e .small;
@@ -52,40 +51,29 @@ once-then : (states : List ℕ) (call : Call) (list : List ℕ) → GoodStates s
     (frame : ℕ) → times frame (recentThen (call .event) (call .frame) list) ≡ heldBit (stateOf (statesThen states call) frame)
 once-then states call list good e once frame =
     let fx = call-effect states call good e in
-    let inside : call .frame < length states = omega (arith, accepted states call e .small, good .long) in
-    rw (states-accepted states call e)
-    (by-cases (eqb (call .frame) frame)
-    (λ same. rw (
-      ← eqb-true (call .frame) frame same,
-      getD-set-same states (call .frame)
-          (tableAt (stateOf states (call .frame)) (call .event)) absent inside,
-    )
+    by-cases (eqb (call .frame) frame)
+    (λ same. rw (← eqb-true (call .frame) frame same, state-same states call good e)
     (times-then (call .event) (call .frame) list (once (call .frame) ∙ fx .was) ∙ sym (fx .becomes)))
     (λ other. let ne : call .frame ≡ frame → ⊥ = eqb-false (call .frame) frame other in
-    rw (getD-set-other states (call .frame) frame (tableAt (stateOf states (call .frame)) (call .event)) absent
-    (λ back. ne (sym back)))
-    (times-then-other (call .event) (call .frame) frame list ne ∙ once frame)))
+    rw (state-other states call good e frame (λ back. ne (sym back)))
+    (times-then-other (call .event) (call .frame) frame list ne ∙ once frame))
 
 pub sound-accepted : {row : Row} {states : List ℕ} {m : ℕ → ℕ} (n : ℕ → ℕ) (call : Call) → Sound row states m →
-    GoodStates states → accepts states call ≡ true →
-    Later (call .event) (call .frame) m n → Sound (moved row call) (statesThen states call) n
+    GoodStates states → accepts states call ≡ true → Later (call .event) (call .frame) m n →
+    Sound (moved row call) (statesThen states call) n
 unfolding moved
 sound-accepted {row} {states} {m} n call sound good e later =
     let step = slot-step (call .event) (row .slots) (row .front) (call .frame) (ready call sound good e) in
-    let before : times (call .frame) (framesIn (row .slots)) ≡ bitBefore (call .event) = ready call sound good e .once in
+    let list = framesIn (row .slots) in
+    let before : times (call .frame) list ≡ bitBefore (call .event) = ready call sound good e .once in
+    let longer = length-then (call .event) (call .frame) list before in
     record {
       sameStates = rw (sound .sameStates);
       number = rw (sound .sameStates);
       fits = refits step;
-      once = λ frame. rw (step .holds) (once-then states call (framesIn (row .slots)) good e (sound .once) frame);
-      many = rw (step .holds)
-          (omega (
-            arith,
-            length-then (call .event) (call .frame) (framesIn (row .slots)) before,
-            held-then states call good e,
-            sound .many,
-          ));
-      order = rw (step .holds) (recent-then (call .event) (call .frame) m n (framesIn (row .slots)) before later (sound .order));
+      once = λ frame. rw (step .holds) (once-then states call list good e (sound .once) frame);
+      many = rw (step .holds) (omega (arith, longer, held-then states call good e, sound .many));
+      order = rw (step .holds) (recent-then (call .event) (call .frame) m n list before later (sound .order));
     }
 
 pub sound-refused : {row : Row} {states : List ℕ} {m : ℕ → ℕ} (n : ℕ → ℕ) → ((frame : ℕ) → n frame ≡ m frame) →

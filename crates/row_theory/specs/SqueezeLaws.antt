@@ -5,7 +5,7 @@ use Prim.Native.Nat.{ℕ, zero, suc, _+_, _<_, _≤_, suc-le-suc, zero-le}
 use native.Mathlib.Nat.{not-suc-le-zero, le-of-suc-le-suc}
 use native.Mathlib.Omega.{arith}
 use mathlib.Core.Path.{_≡_, ap}
-use mathlib.Core.Bool.{true, false, cond, _&&_}
+use mathlib.Core.Bool.{true, _&&_}
 use mathlib.Core.List.{List, [], _∷_}
 use lib.Dec.{ltb, eqb}
 use lib.ListN.{length, getD}
@@ -13,14 +13,14 @@ use borrow.Author.Tests.{ltb-true, ltb-false}
 use Rattle.rules.specs.Limits.{frames, slots, held}
 use Rattle.rules.specs.Cases.{by-cases}
 use Rattle.row_theory.specs.States.{Call, accepts, moves}
-use Rattle.row_theory.specs.Slots.{empty, framesIn, vacated, roomyFront, slotsThen, frontThen}
-use Rattle.row_theory.specs.Row.{Row, moved, after, replyOf, examinedOf}
+use Rattle.row_theory.specs.Slots.{Clear, empty, framesIn, vacated, roomyFront, frontThen}
+use Rattle.row_theory.specs.Row.{Row, moved, replyOf, examinedOf}
 use Rattle.row_theory.specs.History.{statesAfter}
 use Rattle.row_theory.specs.Runs.{rowAfter, PackedRow}
 use Rattle.row_theory.specs.Counting.{and-left, and-right}
-use Rattle.row_theory.specs.SlotLaws.{Clear, framesIn-frame, framesIn-empty, framesIn-length, squeezedFront-rest}
+use Rattle.row_theory.specs.SlotLaws.{framesIn-frame, framesIn-empty, framesIn-length, squeezedFront-rest}
 use Rattle.row_theory.specs.RecentLaws.{fewer, recentThen, length-fewer}
-use Rattle.row_theory.specs.Holding.{Holding, vacate-holding}
+use Rattle.row_theory.specs.Holding.{vacate-holding}
 use Rattle.row_theory.specs.StepLaws.{Ready, slot-step}
 use Rattle.row_theory.specs.GoodStates.{good-after}
 use Rattle.row_theory.specs.SoundRow.{sound-after, ready, after-accepted}

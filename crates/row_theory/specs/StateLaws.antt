@@ -11,9 +11,9 @@ use lib.ListN.{length, getD, set}
 use borrow.Author.Tests.{leb-true, leb-false, ltb-false, ltb-true}
 use Rattle.rules.specs.Limits.{frames, held}
 use Rattle.rules.specs.Refusals.{badFrame, rowFull}
-use Rattle.row_theory.specs.States.{Call, absent, idle, busy, tableAt, stateOf, heldBit, heldIn, ruleOf, isPut, verdictOf}
-use Rattle.row_theory.specs.States.{accepts}
 use Rattle.rules.specs.Cases.{by-cases}
+use Rattle.row_theory.specs.States.{Call, absent, idle, busy, tableAt, cellOf, heldBit, heldIn, ruleOf, isPut, verdictOf}
+use Rattle.row_theory.specs.States.{accepts}
 use Rattle.row_theory.specs.declared.Event.{Event}
 use Rattle.row_theory.specs.declared.Event.the-variants.{Put, Touch, Start, End, Drop}
 
@@ -94,8 +94,8 @@ busy-stays Drop e = omega arith
 -- what acceptance says
 pub record Acceptance (states : List ℕ) (call : Call) : Type 0 where
   pub small : call .frame < frames
-  pub next : verdictOf states call ≡ tableAt (stateOf states (call .frame)) (call .event)
-  pub allowed : tableAt (stateOf states (call .frame)) (call .event) ≤ busy
+  pub next : verdictOf states call ≡ cellOf states call
+  pub allowed : cellOf states call ≤ busy
   pub room : isPut (call .event) ≡ true → heldIn states < held
 
 -- no test of the order of refusals stands against an accepted call
@@ -110,7 +110,7 @@ passed false false false cell h low = (refl, refl, refl)
 pub accepted : (states : List ℕ) (call : Call) → accepts states call ≡ true → Acceptance states call
 unfolding accepts verdictOf
 accepted states call e =
-    let cell = tableAt (stateOf states (call .frame)) (call .event) in
+    let cell = cellOf states call in
     let full = isPut (call .event) && leb held (heldIn states) in
     let tests = passed (leb frames (call .frame)) (ltb busy cell) full cell (ltb-true busy cell) (leb-true _ busy e) in
     record {
@@ -119,6 +119,10 @@ accepted states call e =
       allowed = ltb-false busy cell (tests .1);
       room = λ put. leb-false held (heldIn states) (rw put at (tests .2));
     }
+
+pub heldBit-absent : heldBit absent ≡ 0
+unfolding heldBit
+heldBit-absent = refl
 
 pub heldBit-small : (state : ℕ) → heldBit state ≤ 1
 unfolding heldBit

@@ -78,14 +78,17 @@ moves Start = false
 moves End = false
 moves Drop = false
 
+-- the table's entry for a call: a next state or a refusal
+abbrev pub cellOf : List ℕ → Call → ℕ
+cellOf states call = tableAt (stateOf states (call .frame)) (call .event)
+
 -- O6, the verdict on a call: 20, then a refusal of the table, then 25; and if none applies the state that the table gives its
 -- frame
 unfoldable pub verdictOf : List ℕ → Call → ℕ
 verdictOf states call =
-    let next = tableAt (stateOf states (call .frame)) (call .event) in
     cond (leb frames (call .frame)) badFrame
-    (cond (ltb busy next) next
-    (cond (isPut (call .event) && leb held (heldIn states)) rowFull next))
+    (cond (ltb busy (cellOf states call)) (cellOf states call)
+    (cond (isPut (call .event) && leb held (heldIn states)) rowFull (cellOf states call)))
 
 unfoldable pub accepts : List ℕ → Call → Bool
 accepts states call = leb (verdictOf states call) busy

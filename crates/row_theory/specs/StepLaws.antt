@@ -1,19 +1,18 @@
 -- What one accepted call makes of slots that are in order: the frames in them, the slots below the front, and the front itself.
-use Prim.Native.Nat.{ℕ, suc, _-_, _<_, _≤_}
+use Prim.Native.Nat.{ℕ, suc, _<_, _≤_}
 use native.Mathlib.Omega.{arith}
-use mathlib.Core.Path.{_≡_, sym, _∙_, ap}
+use mathlib.Core.Path.{_≡_}
 use mathlib.Core.Bool.{true, false, cond}
 use mathlib.Core.List.{List}
 use lib.Dec.{eqb}
 use lib.ListN.{length}
 use borrow.Author.Tests.{eqb-false}
-use Rattle.rules.specs.Limits.{frames, slots, held}
+use Rattle.rules.specs.Limits.{frames, held}
 use Rattle.rules.specs.Cases.{by-cases}
-use Rattle.row_theory.specs.States.{moves}
 use Rattle.rules.specs.Lists.{times}
-use Rattle.row_theory.specs.Slots.{framesIn, squeezedFront, vacated, roomyFront, slotsThen, frontThen}
+use Rattle.row_theory.specs.States.{moves}
+use Rattle.row_theory.specs.Slots.{framesIn, roomyFront, slotsThen, frontThen}
 use Rattle.row_theory.specs.StateLaws.{bitBefore}
-use Rattle.row_theory.specs.SlotLaws.{squeezedFront-rest}
 use Rattle.row_theory.specs.RecentLaws.{fewer, recentThen, length-fewer}
 use Rattle.row_theory.specs.Holding.{Holding, vacate-holding, spare, squeeze-holding, take-holding}
 use Rattle.row_theory.specs.declared.Event.{Event}

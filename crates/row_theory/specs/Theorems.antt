@@ -2,24 +2,21 @@
 use Prim.Native.Nat.{ℕ, _*_, _<_, _≤_}
 use native.Mathlib.Omega.{arith}
 use mathlib.Core.Path.{_≡_, refl, sym, _∙_, ap}
-use mathlib.Core.Bool.{Bool, true, cond}
+use mathlib.Core.Bool.{Bool, cond}
 use mathlib.Core.List.{List, [], _∷_, reverseAux}
 use lib.Dec.{ltb, eqb}
-use lib.ListN.{length}
-use lib.Seq.{getD-set-same, getD-set-other}
-use borrow.Author.Tests.{eqb-true, eqb-false, ltb-true, ltb-false}
+use borrow.Author.Tests.{ltb-true, ltb-false}
 use Rattle.rules.specs.Limits.{frames, slots, held}
 use Rattle.rules.specs.Refusals.{badFrame, rowFull, nothingHeld, allBusy}
-use Rattle.row_theory.specs.States.{Call, absent, busy, stateTable, tableAt, stateOf, heldBit, heldIn, accepts, statesThen}
 use Rattle.rules.specs.Lists.{times}
-use Rattle.row_theory.specs.Slots.{framesIn}
+use Rattle.rules.specs.Cases.{by-cases}
+use Rattle.row_theory.specs.States.{Call, absent, busy, stateTable, stateOf, heldBit, heldIn}
+use Rattle.row_theory.specs.Slots.{Clear, framesIn}
 use Rattle.row_theory.specs.Row.{replyOf, examinedOf, anyFrame, victimAmong, victimOf}
 use Rattle.row_theory.specs.History.{statesAfter, momentAfter, movesAfter, Victim-is, Victim-says}
 use Rattle.row_theory.specs.Runs.{rowAfter, examinedAfter, Recent, PackedRow, rowFrom}
-use Rattle.rules.specs.Cases.{by-cases}
-use Rattle.row_theory.specs.StateLaws.{accepted, busy-stays}
-use Rattle.row_theory.specs.SlotLaws.{Clear, times-framesIn}
-use Rattle.row_theory.specs.GoodStates.{good-after, states-accepted, states-refused}
+use Rattle.row_theory.specs.SlotLaws.{times-framesIn}
+use Rattle.row_theory.specs.GoodStates.{good-after, busy-held}
 use Rattle.row_theory.specs.SoundRow.{sound-after}
 use Rattle.row_theory.specs.Bound.{paid-after}
 use Rattle.row_theory.specs.SqueezeLaws.{packed-after}
@@ -95,27 +92,7 @@ busy-no-victim history may frame isBusy given =
 pub busy-kept : (call : Call) (history : List Call) (frame : ℕ) → stateOf (statesAfter history) frame ≡ busy →
     stateOf (statesAfter (call ∷ history)) frame ≡ absent → ⊥
 unfolding statesAfter
-busy-kept call history frame isBusy gone =
-    by-cases (accepts (statesAfter history) call)
-    (λ e. by-cases (eqb frame (call .frame))
-    (λ same. let eq : frame ≡ call .frame = eqb-true frame (call .frame) same in
-    let inside : call .frame < length (statesAfter history) = omega
-    (arith, accepted (statesAfter history) call e .small, good-after history .long) in
-    let was : stateOf (statesAfter history) (call .frame) ≡ busy = rw (← eq) isBusy in
-    busy-stays (call .event)
-    (rw (
-      states-accepted (statesAfter history) call e,
-      eq,
-      getD-set-same (statesAfter history) (call .frame)
-          (tableAt (stateOf (statesAfter history) (call .frame)) (call .event)) absent inside,
-      was,
-    ) at gone))
-    (λ other. let same-state : stateOf (statesThen (statesAfter history) call) frame ≡ stateOf (statesAfter history) frame =
-    rw (states-accepted (statesAfter history) call e)
-    (getD-set-other (statesAfter history) (call .frame) frame
-    (tableAt (stateOf (statesAfter history) (call .frame)) (call .event)) absent (eqb-false frame (call .frame) other)) in
-    omega arith))
-    (λ e. omega (arith, ap (λ (l : List ℕ). stateOf l frame) (states-refused (statesAfter history) call e)))
+busy-kept call history frame isBusy gone = busy-held (statesAfter history) call (good-after history) frame isBusy gone
 
 -- the calls read forwards give the row of the history read backwards
 pub forwards : (calls history : List Call) → rowFrom (rowAfter history) calls ≡ rowAfter (reverseAux calls history)

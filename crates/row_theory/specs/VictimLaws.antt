@@ -9,8 +9,8 @@ use lib.Dec.{ltb, eqb}
 use borrow.Author.Tests.{eqb-true, lt-ltb, ltb-true, ltb-false}
 use Rattle.rules.specs.Limits.{frames}
 use Rattle.rules.specs.Cases.{by-cases}
-use Rattle.row_theory.specs.States.{Call, idle, stateOf, heldBit}
 use Rattle.rules.specs.Lists.{times}
+use Rattle.row_theory.specs.States.{Call, idle, stateOf, heldBit}
 use Rattle.row_theory.specs.Slots.{framesIn, passes, oldest}
 use Rattle.row_theory.specs.Row.{idleAmong}
 use Rattle.row_theory.specs.History.{statesAfter, momentAfter, MayGo, Victim-is}

@@ -1,7 +1,7 @@
 -- `row::call` meets its contract: the verdict, then the steps it allows, each by the law for it. Assumes nothing.
 use native.Mathlib.Omega.{arith}
-use Rattle.row_theory.specs.CallLaws.{known-states, call-refused, call-shiftable, call-countable, call-done}
 use borrow.Author.Needs.{needs}
+use Rattle.row_theory.specs.CallLaws.{known-states, call-refused, call-allowed, call-done}
 use Rattle.row.proofs.call.Statement.{statement}
 use Rattle.row.proofs.call.Tie as tie
 
@@ -15,66 +15,58 @@ returns c =
 
 shift-requires : tie.Need-shift-requires
 shift-requires c κs =
-    let allowed = c .before .before .before in
-    let judged = allowed .before in
-    call-shiftable _ _ (judged .before .before .before .pre) (judged .verdict .ensures) (allowed .if1 .left)
+    let branch = c .before .before .before in
+    let judged = branch .before in
+    let allowed = call-allowed (judged .before .before .before .pre) (judged .verdict .ensures) (branch .if1 .left) in
+    allowed .shiftable
 
 cast-was : tie.Need-cast-was
 cast-was c = search needs
 
 element-copy-out-was : tie.Need-element-copy-out-was
 element-copy-out-was c =
-    let allowed = c .before .before .before .before in
-    let judged = allowed .before in
-    call-shiftable _ _ (judged .before .before .before .pre) (judged .verdict .ensures) (allowed .if1 .left) .ready .small
+    let branch = c .before .before .before .before in
+    let judged = branch .before in
+    let allowed = call-allowed (judged .before .before .before .pre) (judged .verdict .ensures) (branch .if1 .left) in
+    allowed .shiftable .ready .small
 
 cast-states : tie.Need-cast-states
 cast-states c = search needs
 
 element-write-states : tie.Need-element-write-states
 element-write-states c =
-    let allowed = c .before .before .before .before .before in
-    let judged = allowed .before in
-    call-shiftable _ _ (judged .before .before .before .pre) (judged .verdict .ensures) (allowed .if1 .left) .ready .small
+    let branch = c .before .before .before .before .before in
+    let judged = branch .before in
+    let allowed = call-allowed (judged .before .before .before .pre) (judged .verdict .ensures) (branch .if1 .left) in
+    allowed .shiftable .ready .small
 
 held-bit-requires : tie.Need-held-bit-requires
 held-bit-requires c κs = search needs
 
 add-held : tie.Need-add-held
 add-held c =
-    let allowed = c .before .before .before .before .before .before in
-    let judged = allowed .before in
-    omega (
-      arith,
-      call-countable _ _ (judged .before .before .before .pre) (judged .verdict .ensures) (allowed .if1 .left) .0,
-      c .held-bit .ensures,
-    )
+    let branch = c .before .before .before .before .before .before in
+    let judged = branch .before in
+    let allowed = call-allowed (judged .before .before .before .pre) (judged .verdict .ensures) (branch .if1 .left) in
+    omega (arith, allowed .top, c .held-bit .ensures)
 
 held-bit-requires-2 : tie.Need-held-bit-requires-2
 held-bit-requires-2 c κs = search needs
 
 sub-held : tie.Need-sub-held
 sub-held c =
-    let allowed = c .before .before .before .before .before .before .before in
-    let judged = allowed .before in
-    omega (
-      arith,
-      call-countable _ _ (judged .before .before .before .pre) (judged .verdict .ensures) (allowed .if1 .left) .1,
-      c .held-bit2 .ensures,
-    )
+    let branch = c .before .before .before .before .before .before .before in
+    let judged = branch .before in
+    let allowed = call-allowed (judged .before .before .before .pre) (judged .verdict .ensures) (branch .if1 .left) in
+    omega (arith, allowed .bit, c .held-bit2 .ensures)
 
 returns-2 : tie.Need-returns-2
 returns-2 c =
-    let allowed = c .before .before .before .before .before .before .before in
-    let judged = allowed .before in
-    let shifted = c .before .before .before in
-    call-done _ _ (judged .before .before .before .pre) (judged .verdict .ensures) (allowed .if1 .left) (shifted .shift .ensures)
-    (omega (
-      arith,
-      call-countable _ _ (judged .before .before .before .pre) (judged .verdict .ensures) (allowed .if1 .left) .1,
-      c .before .held-bit .ensures,
-      c .held-bit2 .ensures,
-    ))
+    let branch = c .before .before .before .before .before .before .before in
+    let judged = branch .before in
+    let allowed = call-allowed (judged .before .before .before .pre) (judged .verdict .ensures) (branch .if1 .left) in
+    call-done allowed (c .before .before .before .shift .ensures)
+    (omega (arith, allowed .bit, c .before .held-bit .ensures, c .held-bit2 .ensures))
 
 pub call-spec : {M : Type 1} → statement M
 call-spec =

@@ -1,6 +1,6 @@
 -- `row::victim` meets its contract: the states are the marks, so every idle frame bears one. Assumes nothing.
-use Rattle.row_theory.specs.Scan.{states-as-marks}
 use borrow.Author.Needs.{needs}
+use Rattle.row_theory.specs.Scan.{states-as-marks}
 use Rattle.row.proofs.victim.Statement.{statement}
 use Rattle.row.proofs.victim.Tie as tie
 

@@ -1,8 +1,8 @@
 -- `row::slots::seat` meets its contract: with the front at 0 the squeeze and then the store, else the store alone. Assumes
 -- nothing.
 use native.Mathlib.Omega.{arith}
-use Rattle.row_theory.specs.LendingLaws.{squeezed-inside, seat-squeezing, seat-storing}
 use borrow.Author.Needs.{needs}
+use Rattle.row_theory.specs.LendingLaws.{squeezed-inside, seat-squeezing, seat-storing}
 use Rattle.row.proofs.slots.seat.Statement.{statement}
 use Rattle.row.proofs.slots.seat.Tie as tie
 

@@ -1,8 +1,8 @@
 -- `row::slots::shift` meets its contract, event by event: what each asks of the slots it finds, and what the steps leave.
 -- Assumes nothing.
+use borrow.Author.Needs.{needs}
 use Rattle.row_theory.specs.ShiftLaws.{put-seatable, touch-once, touch-seats, drop-once, asks-as, leaves-as}
 use Rattle.row_theory.specs.ShiftLaws.{shifted-put, touched, shifted-start, shifted-end, dropped}
-use borrow.Author.Needs.{needs}
 use Rattle.row.proofs.slots.shift.Statement.{statement}
 use Rattle.row.proofs.slots.shift.Tie as tie
 

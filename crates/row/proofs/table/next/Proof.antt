@@ -1,6 +1,6 @@
 -- `row::table::next` meets its contract: the constant table is the definition's, entry by entry. Assumes nothing.
-use Rattle.row_theory.specs.States.{tableAt}
 use borrow.Author.Needs.{needs}
+use Rattle.row_theory.specs.States.{tableAt}
 use Rattle.row.proofs.table.next.Statement.{statement}
 use Rattle.row.proofs.table.next.Tie as tie
 

@@ -1,6 +1,6 @@
 -- `row::table::verdict` meets its contract: each return is one way through the order of refusals. Assumes nothing.
-use Rattle.row_theory.specs.VerdictLaws.{verdict-past, verdict-table, verdict-held, verdict-full, verdict-next}
 use borrow.Author.Needs.{needs}
+use Rattle.row_theory.specs.VerdictLaws.{verdict-past, verdict-table, verdict-held, verdict-full, verdict-next}
 use Rattle.row.proofs.table.verdict.Statement.{statement}
 use Rattle.row.proofs.table.verdict.Tie as tie
 
