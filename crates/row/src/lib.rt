@@ -30,8 +30,8 @@ ghost use Rattle.row_theory.specs.Runs.{Reached};
 ghost use Rattle.row_theory.specs.Row.{anyFrame, hasMark};
 ghost use Rattle.row_theory.specs.Promise.{memory, rowWith, Stands, asked, Answered, FreshRow, Oldest-idle, stateIn};
 
-// The mark of a frame that may be given up.
-const GIVABLE: u8 = 1;
+// The mark that lets `victim_among` give a frame up; any other number keeps it.
+pub const GIVABLE: u8 = 1;
 
 // One of the five calls: put, touch, start, end or drop of a frame (rules W2 to W6, O6). A refusal leaves the row as it was.
 pub fn call(
