@@ -7,7 +7,7 @@ use row_theory::Victim;
 use rules::Frame;
 ghost use mathlib.Core.Path.{_≡_};
 ghost use Rattle.row_theory.specs.Runs.{Reached};
-ghost use Rattle.row_theory.specs.Promise.{memory, Stands, Started, asked};
+ghost use Rattle.row_theory.specs.Promise.{memory, Stands, FreshRow, asked};
 ghost use Rattle.row_theory.specs.Row.{victimOf};
 ghost use Rattle.row_theory.specs.declared.Event.the-variants.{Put, Touch, Start, End, Drop};
 ghost use Rattle.exports.specs.Row.{repliedOf, RowTold, chosenOf};
@@ -71,7 +71,7 @@ pub extern "C" fn musselrung_row_fresh(
     front: &mut usize,
     held: &mut usize,
 )
-    ensures { λ _. ⌜ Started (memory (now (slots .exit)) (now (places .exit)) (now (states .exit)) (now (front .exit)) (now (held .exit))) ⌝ }
+    ensures { λ _. ⌜ FreshRow (memory (now (slots .exit)) (now (places .exit)) (now (states .exit)) (now (front .exit)) (now (held .exit))) ⌝ }
 {
     row::fresh(slots, places, states, front, held)
 }

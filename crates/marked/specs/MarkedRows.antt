@@ -1,11 +1,12 @@
--- The marked cases P9 to P12: what a fresh row answers to calls, and the victim after them.
+-- The marked cases P9 to P12 (docs/RULES.md, "Cases"): what a fresh row answers to calls, and the victim after them. What is
+-- wanted stands in the rules' own numbers.
 use Prim.Native.Nat.{ℕ, suc}
+use mathlib.Core.Path.{_≡_, refl}
 use mathlib.Core.List.{List, [], _∷_, _++_, map}
 use lib.ListN.{replicate}
-use Rattle.rules.specs.Case.{Case}
-use Rattle.rules.specs.Refusals.{rowFull, allBusy, busyFrame}
+use Rattle.rules.specs.Case.{Case, gotten, wished}
 use Rattle.row_theory.specs.States.{Call}
-use Rattle.row_theory.specs.Row.{numberOf, examinedOf}
+use Rattle.row_theory.specs.Row.{replyNumber, examinedOf}
 use Rattle.row_theory.specs.Runs.{answersOf, victimAfterCalls}
 use Rattle.row_theory.specs.Promise.{asked}
 use Rattle.row_theory.specs.declared.Event.the-variants as event
@@ -24,19 +25,20 @@ start f = asked event.Start f
 abbrev drop : ℕ → Call
 drop f = asked event.Drop f
 
--- number and frame of a victim; 0 for no refusal, and for no frame
+-- number and frame of a victim after these calls; 0 for no refusal, and for no frame
 abbrev victimShown : Victim → List ℕ
 victimShown (victim.Given f) = 0 ∷ f .0 ∷ []
 victimShown (victim.Refused r) = r .number ∷ 0 ∷ []
 
-abbrev victimCase : List Call → ℕ → ℕ → Case
-victimCase calls number frame =
-    record { got = victimShown (victimAfterCalls calls) ∷ []; wanted = (number ∷ frame ∷ []) ∷ [] }
+abbrev victimAt : List Call → List ℕ
+victimAt calls = victimShown (victimAfterCalls calls)
 
--- the numbers and the slots examined of all calls
-abbrev repliesCase : List Call → List ℕ → List ℕ → Case
-repliesCase calls numbers examined =
-    record { got = map numberOf (answersOf calls) ∷ map examinedOf (answersOf calls) ∷ []; wanted = numbers ∷ examined ∷ [] }
+-- the numbers of all calls, and the slots that they examined
+abbrev numbersOf : List Call → List ℕ
+numbersOf calls = map replyNumber (answersOf calls)
+
+abbrev examinedBy : List Call → List ℕ
+examinedBy calls = map examinedOf (answersOf calls)
 
 abbrev zeros : ℕ → List ℕ
 zeros n = replicate n 0
@@ -46,17 +48,55 @@ unfoldable pub puts : ℕ → ℕ → List Call
 puts f ℕ.zero = []
 puts f (suc n) = put f ∷ puts (suc f) n
 
-abbrev P9 : List Call
-P9 = put 4 ∷ put 9 ∷ touch 4 ∷ []
+-- P9: put 4, put 9, touch 4: victim 9
+abbrev calls9 : List Call
+calls9 = put 4 ∷ put 9 ∷ touch 4 ∷ []
+
+abbrev pub p9 : Case
+p9 = record { got = victimAt calls9 ∷ []; wanted = (0 ∷ 9 ∷ []) ∷ [] }
+
+-- P10: then start 9: victim 4; start 4: 27; drop 9: 23
+abbrev calls10 : List Call
+calls10 = calls9 ++ (start 9 ∷ start 4 ∷ [])
+
+abbrev pub p10 : Case
+p10 =
+    record {
+      got = victimAt (calls9 ++ (start 9 ∷ [])) ∷ victimAt calls10 ∷ numbersOf (calls10 ++ (drop 9 ∷ [])) ∷ [];
+      wanted = (0 ∷ 4 ∷ []) ∷ (27 ∷ 0 ∷ []) ∷ (0 ∷ 0 ∷ 0 ∷ 0 ∷ 0 ∷ 23 ∷ []) ∷ [];
+    }
+
+-- P11: put one frame, touch it 63 times: all examined 0; the 64th touch examines 64
+abbrev calls11 : List Call
+calls11 = put 7 ∷ replicate 64 (touch 7)
+
+abbrev pub p11 : Case
+p11 = record { got = numbersOf calls11 ∷ examinedBy calls11 ∷ []; wanted = zeros 65 ∷ (zeros 64 ++ (64 ∷ [])) ∷ [] }
+
+-- P12: 32 frames held: a new put gives 25; after a drop it is accepted
+abbrev pub p12 : Case
+p12 =
+    record {
+      got = numbersOf (puts 0 32 ++ (put 40 ∷ [])) ∷ numbersOf (puts 0 32 ++ (drop 5 ∷ put 40 ∷ [])) ∷ [];
+      wanted = (zeros 32 ++ (25 ∷ [])) ∷ zeros 34 ∷ [];
+    }
 
 abbrev pub rowTable : List Case
-rowTable =
-    victimCase P9 0 9
-    ∷ victimCase (P9 ++ (start 9 ∷ [])) 0 4
-    ∷ victimCase (P9 ++ (start 9 ∷ start 4 ∷ [])) allBusy 0
-    ∷ repliesCase (P9 ++ (start 9 ∷ start 4 ∷ drop 9 ∷ [])) (zeros 5 ++ (busyFrame ∷ [])) (zeros 6)
-    ∷ repliesCase (put 7 ∷ replicate 63 (touch 7)) (zeros 64) (zeros 64)
-    ∷ repliesCase (put 7 ∷ replicate 64 (touch 7)) (zeros 65) (zeros 64 ++ (64 ∷ []))
-    ∷ repliesCase (puts 0 32 ++ (put 40 ∷ [])) (zeros 32 ++ (rowFull ∷ [])) (zeros 33)
-    ∷ repliesCase (puts 0 32 ++ (drop 5 ∷ put 40 ∷ [])) (zeros 34) (zeros 34)
-    ∷ []
+rowTable = p9 ∷ p10 ∷ p11 ∷ p12 ∷ []
+
+-- each by itself, so that a case that fails is named
+pub p9-holds : gotten p9 ≡ wished p9
+unfolding answersOf victimAfterCalls
+p9-holds = refl
+
+pub p10-holds : gotten p10 ≡ wished p10
+unfolding answersOf victimAfterCalls
+p10-holds = refl
+
+pub p11-holds : gotten p11 ≡ wished p11
+unfolding answersOf
+p11-holds = refl
+
+pub p12-holds : gotten p12 ≡ wished p12
+unfolding answersOf puts
+p12-holds = refl

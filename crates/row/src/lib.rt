@@ -1,7 +1,8 @@
-// The frame row (rules W1 to W7; Hoogerwoord 1992, section 1): a fresh row, the five calls, the victim, and the state of one frame. The
-// row stands in memory that the caller lends: the slots, each frame's place in them, each frame's state, the front mark and the number
-// held. The only premise is that the row is one that a fresh row and calls give (`Stands`), and each call leaves one. What the calls
-// mean, and what any sequence of them gives, stands in `row_theory`: a layer above needs its specs/Promise.antt alone.
+// The frame row (rules W1 to W7; Hoogerwoord 1992, section 1): a fresh row, the five calls, the victim, and the state of one
+// frame. The row stands in memory that the caller lends: the slots, each frame's place in them, each frame's state, the front
+// mark and the number held. The only premise is that the row is one that a fresh row and calls give (`Stands`), and each call
+// leaves one. What the calls mean, and what any sequence of them gives, stands in `row_theory`: a layer above needs its
+// specs/Promise.antt alone.
 mod slots;
 mod table;
 
@@ -22,11 +23,15 @@ use slots::shift;
 use table::ABSENT;
 use table::BUSY;
 use table::IDLE;
-use table::recount;
+use table::held_bit;
 use table::verdict;
 ghost use mathlib.Core.Path.{_≡_};
 ghost use Rattle.row_theory.specs.Runs.{Reached};
-ghost use Rattle.row_theory.specs.Promise.{memory, Stands, asked, Answered, Started, Kept, Among, Oldest-idle, stateIn};
+ghost use Rattle.row_theory.specs.Row.{anyFrame, hasMark};
+ghost use Rattle.row_theory.specs.Promise.{memory, rowWith, Stands, asked, Answered, FreshRow, Oldest-idle, stateIn};
+
+// The mark that lets `victim_among` give a frame up; any other number keeps it.
+pub const GIVABLE: u8 = 1;
 
 // One of the five calls: put, touch, start, end or drop of a frame (rules W2 to W6, O6). A refusal leaves the row as it was.
 pub fn call(
@@ -39,7 +44,10 @@ pub fn call(
     frame: Frame,
 ) -> Reply
     requires { ⌜ Stands (memory (now slots) (now places) (now states) (now front) (now held)) ⌝ }
-    ensures { λ r. ⌜ Answered (memory (now (slots .entry)) (now (places .entry)) (now (states .entry)) (now (front .entry)) (now (held .entry))) (asked event (frame .0)) r (memory (now (slots .exit)) (now (places .exit)) (now (states .exit)) (now (front .exit)) (now (held .exit))) ⌝ }
+    ensures { λ r. ⌜ Answered
+        (memory (now (slots .entry)) (now (places .entry)) (now (states .entry)) (now (front .entry)) (now (held .entry)))
+        (asked event (frame .0)) r
+        (memory (now (slots .exit)) (now (places .exit)) (now (states .exit)) (now (front .exit)) (now (held .exit))) ⌝ }
 {
     let f = frame.0;
     let n = *held;
@@ -51,8 +59,9 @@ pub fn call(
         });
     }
     let examined = shift(slots, places, front, event, f);
+    let was = states[f as usize];
     states[f as usize] = then;
-    *held = recount(event, n);
+    *held = n + held_bit(then) - held_bit(was);
     Reply::Done(examined)
 }
 
@@ -64,7 +73,8 @@ pub fn fresh(
     front: &mut usize,
     held: &mut usize,
 )
-    ensures { λ r. ⌜ Started (memory (now (slots .exit)) (now (places .exit)) (now (states .exit)) (now (front .exit)) (now (held .exit))) ⌝ }
+    ensures { λ r. ⌜ FreshRow
+        (memory (now (slots .exit)) (now (places .exit)) (now (states .exit)) (now (front .exit)) (now (held .exit))) ⌝ }
 {
     *slots = [EMPTY; SLOTS];
     *places = [NOWHERE; FRAMES as usize];
@@ -73,18 +83,29 @@ pub fn fresh(
     *held = 0;
 }
 
-// The frame nearest the old end among those whose mark is 1 (rule W7): 26 if nothing is held, 27 if no held frame has the mark.
-pub fn victim_among(slots: &PerSlot, marks: &PerFrame, front: usize, held: usize) -> Victim
-    requires { ⌜ Kept (now slots) front held ⌝ }
-    ensures { λ r. ⌜ Among (now (slots .entry)) (now (marks .entry)) held r ⌝ }
+// The oldest frame that is idle and whose mark is 1 (rule W7): 26 if nothing is held, 27 if frames are held but none is such
+// a one. Whatever the marks, a busy frame is not given. The scan starts at the old end, so that it ends at the first frame
+// that may be given up.
+pub fn victim_among(
+    slots: &PerSlot,
+    states: &PerFrame,
+    marks: &PerFrame,
+    front: usize,
+    held: usize,
+) -> Victim
+    requires { ⌜ Reached (rowWith (now slots) (now states) front held) ⌝ }
+    ensures { λ r. ⌜ Oldest-idle (rowWith (now (slots .entry)) (now (states .entry)) front held)
+        (hasMark (now (marks .entry))) r ⌝ }
 {
     let mut i = SLOTS;
     while front < i {
         i -= 1;
         let frame = slots[i];
         if frame < FRAMES {
-            if marks[frame as usize] == IDLE {
-                return Victim::Given(Frame(frame));
+            if states[frame as usize] == IDLE {
+                if marks[frame as usize] == GIVABLE {
+                    return Victim::Given(Frame(frame));
+                }
             }
         }
     }
@@ -100,12 +121,12 @@ pub fn victim_among(slots: &PerSlot, marks: &PerFrame, front: usize, held: usize
     })
 }
 
-// The idle frame nearest the old end (rule W7).
+// The oldest idle frame (rule W7). The states serve as marks: idle reads 1, so every idle frame bears one.
 pub fn victim(slots: &PerSlot, states: &PerFrame, front: usize, held: usize) -> Victim
-    requires { ⌜ Reached (record { slots = now slots; states = now states; front = front; held = held }) ⌝ }
-    ensures { λ r. ⌜ Oldest-idle (record { slots = now (slots .entry); states = now (states .entry); front = front; held = held }) r ⌝ }
+    requires { ⌜ Reached (rowWith (now slots) (now states) front held) ⌝ }
+    ensures { λ r. ⌜ Oldest-idle (rowWith (now (slots .entry)) (now (states .entry)) front held) anyFrame r ⌝ }
 {
-    victim_among(slots, states, front, held)
+    victim_among(slots, states, states, front, held)
 }
 
 // The state of one frame, whatever its number: 0 absent, 1 idle, 2 busy.

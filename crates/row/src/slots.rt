@@ -6,21 +6,20 @@ use rules::FRAMES;
 use rules::SLOTS;
 ghost use mathlib.Core.Path.{_≡_};
 ghost use Prim.Native.Nat.{_<_};
-ghost use lib.ListN.{set};
 ghost use Rattle.rules.specs.Limits.{frames, slots as slotCount};
-ghost use Rattle.row_theory.specs.Slots.{squeezed, squeezedFront, emptied, placesIn, count};
-ghost use Rattle.row_theory.specs.Lending.{Indexed, Seatable, SeatedNow, Shiftable, Shifted};
+ghost use Rattle.rules.specs.Lists.{times};
+ghost use Rattle.row_theory.specs.Lending.{Indexed, SqueezedNow, TakenSlot, LeftSlot, Seatable, SeatedNow, Shiftable, Shifted};
 
 // What an empty slot reads, and the place of a frame that has no slot.
 pub(crate) const EMPTY: u8 = FRAMES;
 
 pub(crate) const NOWHERE: u8 = SLOTS as u8;
 
-// The held frames packed against the last slot, order kept; the answer is the new front (rule W3). A frame never lands below the slot it
-// is read from, so nothing is written over before it is read.
+// The held frames packed against the last slot, order kept; the answer is the new front (rule W3). A frame never lands below
+// the slot it is read from, so nothing is written over before it is read.
 fn squeeze(slots: &mut PerSlot, places: &mut PerFrame) -> usize
     requires { ⌜ Indexed (now slots) (now places) ⌝ }
-    ensures { λ r. ⌜ (r ≡ squeezedFront (now (slots .entry))) × (now (slots .exit) ≡ squeezed (now (slots .entry))) × (now (places .exit) ≡ placesIn (squeezed (now (slots .entry)))) ⌝ }
+    ensures { λ r. ⌜ SqueezedNow (now (slots .entry)) r (now (slots .exit)) (now (places .exit)) ⌝ }
 {
     let mut to = SLOTS;
     let mut i = SLOTS;
@@ -40,7 +39,8 @@ fn squeeze(slots: &mut PerSlot, places: &mut PerFrame) -> usize
 // The frame takes the slot, which becomes the front.
 fn take_slot(slots: &mut PerSlot, places: &mut PerFrame, front: &mut usize, at: usize, frame: u8)
     requires { ⌜ (at < slotCount) × (frame < frames) ⌝ }
-    ensures { λ r. ⌜ (now (slots .exit) ≡ set (now (slots .entry)) at frame) × (now (places .exit) ≡ set (now (places .entry)) frame at) × (now (front .exit) ≡ at) ⌝ }
+    ensures { λ r. ⌜ TakenSlot (now (slots .entry)) (now (places .entry)) at frame
+        (now (slots .exit)) (now (places .exit)) (now (front .exit)) ⌝ }
 {
     slots[at] = frame;
     places[frame as usize] = at as u8;
@@ -49,18 +49,20 @@ fn take_slot(slots: &mut PerSlot, places: &mut PerFrame, front: &mut usize, at: 
 
 // The frame's slot is emptied (rule W4).
 fn leave_slot(slots: &mut PerSlot, places: &mut PerFrame, frame: u8)
-    requires { ⌜ Indexed (now slots) (now places) × (frame < frames) × (count frame (now slots) ≡ 1) ⌝ }
-    ensures { λ r. ⌜ (now (slots .exit) ≡ emptied frame (now (slots .entry))) × (now (places .exit) ≡ placesIn (emptied frame (now (slots .entry)))) ⌝ }
+    requires { ⌜ Indexed (now slots) (now places) × (frame < frames) × (times frame (now slots) ≡ 1) ⌝ }
+    ensures { λ r. ⌜ LeftSlot (now (slots .entry)) frame (now (slots .exit)) (now (places .exit)) ⌝ }
 {
     let at = places[frame as usize];
     slots[at as usize] = EMPTY;
     places[frame as usize] = NOWHERE;
 }
 
-// Rule W2: if the front is 0, squeeze; then the front falls by one and that slot takes the frame. The answer is the slots examined.
+// Rule W2: if the front is 0, squeeze; then the front falls by one and that slot takes the frame. The answer is the slots
+// examined.
 fn seat(slots: &mut PerSlot, places: &mut PerFrame, front: &mut usize, frame: u8) -> u8
     requires { ⌜ Seatable (now slots) (now places) (now front) frame ⌝ }
-    ensures { λ r. ⌜ SeatedNow (now (slots .entry)) (now (front .entry)) frame r (now (slots .exit)) (now (places .exit)) (now (front .exit)) ⌝ }
+    ensures { λ r. ⌜ SeatedNow (now (slots .entry)) (now (front .entry)) frame r
+        (now (slots .exit)) (now (places .exit)) (now (front .exit)) ⌝ }
 {
     let at = *front;
     if at == 0 {
@@ -81,7 +83,8 @@ pub(crate) fn shift(
     frame: u8,
 ) -> u8
     requires { ⌜ Shiftable event (now slots) (now places) (now front) frame ⌝ }
-    ensures { λ r. ⌜ Shifted event (now (slots .entry)) (now (front .entry)) frame r (now (slots .exit)) (now (places .exit)) (now (front .exit)) ⌝ }
+    ensures { λ r. ⌜ Shifted event (now (slots .entry)) (now (front .entry)) frame r
+        (now (slots .exit)) (now (places .exit)) (now (front .exit)) ⌝ }
 {
     match event {
         Event::Put => seat(slots, places, front, frame),

@@ -1,4 +1,4 @@
-// The state table (rules W6, O6, R20 to R25): what a call may do to its frame, and what it makes of the number held.
+// The state table (rules W6, O6, R20 to R25): what a call may do to its frame.
 use row_theory::Event;
 use row_theory::PerFrame;
 use rules::BAD_FRAME;
@@ -10,14 +10,10 @@ use rules::IDLE_FRAME;
 use rules::NOT_HELD;
 use rules::ROW_FULL;
 ghost use mathlib.Core.Path.{_≡_};
-ghost use mathlib.Core.Bool.{_&&_};
-ghost use Prim.Native.Nat.{ℕ, _<_, _≤_};
-ghost use lib.Dec.{leb};
+ghost use Prim.Native.Nat.{ℕ, _≤_};
 ghost use lib.ListN.{getD};
-ghost use Rattle.rules.specs.Limits.{held as heldLimit, slots as slotCount};
-ghost use Rattle.row_theory.specs.States.{busy, entry, isPut};
-ghost use Rattle.row_theory.specs.StateLaws.{bitLater};
-ghost use Rattle.row_theory.specs.Verdict.{verdictOf, heldThen};
+ghost use Rattle.row_theory.specs.States.{busy, heldBit, heldIn, tableAt, verdictOf};
+ghost use Rattle.row_theory.specs.Promise.{asked};
 
 pub(crate) const ABSENT: u8 = 0;
 
@@ -35,7 +31,7 @@ const NEXT: [[u8; 5]; 3] = [
 // The table's entry: a next state or a refusal.
 fn next(state: u8, event: Event) -> u8
     requires { ⌜ state ≤ busy ⌝ }
-    ensures { λ r. ⌜ r ≡ entry state event ⌝ }
+    ensures { λ r. ⌜ r ≡ tableAt state event ⌝ }
 {
     let row = NEXT[state as usize];
     match event {
@@ -47,47 +43,35 @@ fn next(state: u8, event: Event) -> u8
     }
 }
 
-// Does the limit on frames held stand against the event (rule R25)?
-fn full(event: Event, held: usize) -> bool
-    ensures { λ r. ⌜ r ≡ (isPut event && leb heldLimit held) ⌝ }
-{
-    match event {
-        Event::Put => HELD <= held,
-        Event::Touch => false,
-        Event::Start => false,
-        Event::End => false,
-        Event::Drop => false,
-    }
-}
-
 // The refusal's number, or the state that the call gives its frame (rule O6).
 pub(crate) fn verdict(states: &PerFrame, held: usize, event: Event, frame: u8) -> u8
-    requires { ⌜ ((f : ℕ) → getD (now states) f 0 ≤ busy) ⌝ }
-    ensures { λ r. ⌜ r ≡ verdictOf (now (states .entry)) held event frame ⌝ }
+    requires { ⌜ ((f : ℕ) → getD (now states) f 0 ≤ busy) × (held ≡ heldIn (now states)) ⌝ }
+    ensures { λ r. ⌜ r ≡ verdictOf (now (states .entry)) (asked event frame) ⌝ }
 {
     if FRAMES <= frame {
         return BAD_FRAME;
     }
-    let then = next(states[frame as usize], event);
+    let state = states[frame as usize];
+    let then = next(state, event);
     if BUSY < then {
         return then;
     }
-    if full(event, held) {
+    // A held frame takes no more room, and of an absent one the table lets only a put through.
+    if state != ABSENT {
+        return then;
+    }
+    if HELD <= held {
         return ROW_FULL;
     }
     then
 }
 
-// The number held after an accepted call.
-pub(crate) fn recount(event: Event, n: usize) -> usize
-    requires { ⌜ (n ≤ slotCount) × (bitLater event ≡ 0 → 0 < n) ⌝ }
-    ensures { λ r. ⌜ r ≡ heldThen event n ⌝ }
+// What a frame in this state adds to the number held.
+pub(crate) fn held_bit(state: u8) -> usize
+    ensures { λ r. ⌜ r ≡ heldBit state ⌝ }
 {
-    match event {
-        Event::Put => n + 1,
-        Event::Touch => n,
-        Event::Start => n,
-        Event::End => n,
-        Event::Drop => n - 1,
+    if state == ABSENT {
+        return 0;
     }
+    1
 }

@@ -1,7 +1,7 @@
 -- The states of frames after any calls (docs/RULES.md, W6, L5): one for each frame, each of the three, at most 32 frames held.
 use Prim.Native.Nat.{ℕ, zero, suc, _+_, _<_, _≤_, zero-le}
 use native.Mathlib.Omega.{arith}
-use mathlib.Core.Path.{_≡_, refl}
+use mathlib.Core.Path.{_≡_, refl, ap}
 use mathlib.Core.Bool.{true, false}
 use mathlib.Core.List.{List, [], _∷_}
 use lib.Dec.{eqb}
@@ -9,10 +9,11 @@ use lib.ListN.{length, getD, set, replicate, length-set, length-replicate}
 use lib.Seq.{getD-set-same, getD-set-other}
 use borrow.Author.Tests.{eqb-true, eqb-false}
 use Rattle.rules.specs.Limits.{frames, held}
-use Rattle.row_theory.specs.States.{Call, absent, busy, entry, stateOf, heldBit, heldIn, isPut, accepts, statesThen, freshStates}
+use Rattle.rules.specs.Cases.{by-cases}
+use Rattle.row_theory.specs.States.{Call, absent, busy, stateOf, cellOf, heldBit, heldIn, isPut, accepts, statesThen}
+use Rattle.row_theory.specs.States.{freshStates}
 use Rattle.row_theory.specs.History.{statesAfter}
-use Rattle.row_theory.specs.Counting.{by-test}
-use Rattle.row_theory.specs.StateLaws.{Effect, effect, accepted, heldIn-set, bitBefore, bitLater}
+use Rattle.row_theory.specs.StateLaws.{Effect, effect, busy-stays, accepted, heldIn-set, bitBefore, bitLater}
 use Rattle.row_theory.specs.declared.Event.{Event}
 use Rattle.row_theory.specs.declared.Event.the-variants.{Put, Touch, Start, End, Drop}
 
@@ -32,50 +33,74 @@ unfolding heldIn heldBit
 heldIn-absent zero = refl
 heldIn-absent (suc n) = omega (arith, heldIn-absent n)
 
--- an accepted call stores the table's entry at its frame
-pub states-accepted : (states : List ℕ) (call : Call) → accepts states call ≡ true → statesThen states call ≡ set states (call .frame) (entry (stateOf states (call .frame)) (call .event))
-unfolding statesThen
-states-accepted states call e = rw e
-
 pub states-refused : (states : List ℕ) (call : Call) → accepts states call ≡ false → statesThen states call ≡ states
 unfolding statesThen
 states-refused states call e = rw e
 
--- what an accepted call does to the held bit of its frame, and to the number held
-pub call-effect : (states : List ℕ) (call : Call) → GoodStates states → accepts states call ≡ true →
-    Effect (bitBefore (call .event)) (bitLater (call .event)) (stateOf states (call .frame)) (entry (stateOf states (call .frame)) (call .event))
-call-effect states call good e = effect (call .event) (stateOf states (call .frame)) (good .known (call .frame)) (accepted states call e .allowed)
+-- an accepted call stores the table's entry at its frame
+module _ (states : List ℕ) (call : Call) (good : GoodStates states) (ok : accepts states call ≡ true) where
+  inside : call .frame < length states
+  inside = omega (arith, accepted states call ok .small, good .long)
 
-pub held-then : (states : List ℕ) (call : Call) → GoodStates states → accepts states call ≡ true →
-    heldIn (statesThen states call) + bitBefore (call .event) ≡ heldIn states + bitLater (call .event)
-held-then states call good e =
-    let fx = call-effect states call good e in
-    rw (states-accepted states call e)
-    (omega (arith, heldIn-set states (call .frame) (entry (stateOf states (call .frame)) (call .event)) (omega (arith, accepted states call e .small, good .long)), fx .was, fx .becomes))
+  stored : statesThen states call ≡ set states (call .frame) (cellOf states call)
+  unfolding statesThen
+  stored = rw (ok, accepted states call ok .next)
 
-few-then : (states : List ℕ) (event : Event) (n : ℕ) → heldIn states ≤ held → (isPut event ≡ true → heldIn states < held) → n + bitBefore event ≡ heldIn states + bitLater event → n ≤ held
+  pub state-same : stateOf (statesThen states call) (call .frame) ≡ cellOf states call
+  state-same = rw stored (getD-set-same states (call .frame) (cellOf states call) absent inside)
+
+  pub state-other : (frame : ℕ) → (frame ≡ call .frame → ⊥) → stateOf (statesThen states call) frame ≡ stateOf states frame
+  state-other frame ne = rw stored (getD-set-other states (call .frame) frame (cellOf states call) absent ne)
+
+  -- what it does to the held bit of its frame, and to the number held
+  pub call-effect : Effect (bitBefore (call .event)) (bitLater (call .event)) (stateOf states (call .frame)) (cellOf states call)
+  call-effect =
+      effect (call .event) (stateOf states (call .frame)) (good .known (call .frame)) (accepted states call ok .allowed)
+
+  pub held-then : heldIn (statesThen states call) + bitBefore (call .event) ≡ heldIn states + bitLater (call .event)
+  held-then =
+      let bits = heldIn-set states (call .frame) (cellOf states call) inside in
+      rw stored (omega (arith, bits, call-effect .was, call-effect .becomes))
+
+  known-then : (frame : ℕ) → stateOf (statesThen states call) frame ≤ busy
+  known-then frame =
+      by-cases (eqb frame (call .frame))
+      (λ e. rw (eqb-true frame (call .frame) e, state-same) (accepted states call ok .allowed))
+      (λ e. rw (state-other frame (eqb-false frame (call .frame) e)) (good .known frame))
+
+  -- D1: a busy frame is not absent after it
+  busy-then : (frame : ℕ) → stateOf states frame ≡ busy → stateOf (statesThen states call) frame ≡ absent → ⊥
+  busy-then frame isBusy gone =
+      by-cases (eqb frame (call .frame))
+      (λ e. let same : frame ≡ call .frame = eqb-true frame (call .frame) e in
+      busy-stays (call .event) (rw (same, state-same, ← same, isBusy) at gone))
+      (λ e. omega (arith, state-other frame (eqb-false frame (call .frame) e)))
+
+few-then : (states : List ℕ) (event : Event) (n : ℕ) → heldIn states ≤ held → (isPut event ≡ true → heldIn states < held) →
+    n + bitBefore event ≡ heldIn states + bitLater event → n ≤ held
 few-then states Put n few room e = omega (arith, room refl)
 few-then states Touch n few room e = omega arith
 few-then states Start n few room e = omega arith
 few-then states End n few room e = omega arith
 few-then states Drop n few room e = omega arith
 
-state-then : (states : List ℕ) (i next f : ℕ) → i < length states → (next ≤ busy) → ((frame : ℕ) → stateOf states frame ≤ busy) → stateOf (set states i next) f ≤ busy
-state-then states i next f inside small known =
-    by-test (eqb f i)
-    (λ e. rw (eqb-true f i e, getD-set-same states i next absent inside) small)
-    (λ e. rw (getD-set-other states i f next absent (eqb-false f i e)) (known f))
-
 pub good-then : (states : List ℕ) (call : Call) → GoodStates states → GoodStates (statesThen states call)
 good-then states call good =
-    by-test (accepts states call)
-    (λ e. let ok = accepted states call e in
-    record {
-      long = rw (states-accepted states call e) (simp length-set (good .long));
-      known = λ f. rw (states-accepted states call e) (state-then states (call .frame) (entry (stateOf states (call .frame)) (call .event)) f (omega (arith, ok .small, good .long)) (ok .allowed) (good .known));
-      few = few-then states (call .event) (heldIn (statesThen states call)) (good .few) (ok .room) (held-then states call good e);
+    by-cases (accepts states call)
+    (λ ok. record {
+      long = rw (stored states call good ok) (simp length-set (good .long));
+      known = known-then states call good ok;
+      few = few-then states (call .event) (heldIn (statesThen states call)) (good .few) (accepted states call ok .room)
+          (held-then states call good ok);
     })
     (λ e. rw (states-refused states call e) good)
+
+-- D1: whatever the call, a busy frame is not absent after it
+pub busy-held : (states : List ℕ) (call : Call) → GoodStates states → (frame : ℕ) → stateOf states frame ≡ busy →
+    stateOf (statesThen states call) frame ≡ absent → ⊥
+busy-held states call good frame isBusy gone =
+    by-cases (accepts states call) (λ ok. busy-then states call good ok frame isBusy gone)
+    (λ e. omega (arith, ap (λ (l : List ℕ). stateOf l frame) (states-refused states call e)))
 
 pub good-fresh : GoodStates freshStates
 good-fresh =

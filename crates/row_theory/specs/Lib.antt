@@ -7,28 +7,30 @@ pub mod Row
 pub mod History
 pub mod Runs
 pub mod Promise
--- What holds over any calls from a fresh row, and that two answers which meet a promise are equal.
+-- What holds over any calls from a fresh row, and of any answer that meets a promise.
 pub mod Theorems
-pub mod PromiseLaws
+pub mod Answers
 -- The laws that these rest on: of lists, states and slots, then of one call, then of all calls.
 pub mod Counting
 pub mod StateLaws
 pub mod SlotLaws
-pub mod SeatLaws
 pub mod RecentLaws
+pub mod Holding
 pub mod StepLaws
 pub mod GoodStates
 pub mod Moments
 pub mod SoundRow
 pub mod Bound
+pub mod SqueezeLaws
 pub mod Oldest
+pub mod VictimLaws
+pub mod PromiseLaws
 -- What the code's own steps ask and leave, and the laws that its proofs cite.
-pub mod Verdict
+pub mod Lending
 pub mod VerdictLaws
 pub mod PlaceLaws
 pub mod Packing
 pub mod PackingLaws
-pub mod Lending
 pub mod LendingLaws
 pub mod ShiftLaws
 pub mod CallLaws

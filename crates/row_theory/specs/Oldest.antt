@@ -1,36 +1,40 @@
--- The oldest marked frame (docs/RULES.md, W7): along slots that hold their frames most recent first, it is the one whose moment is earliest.
+-- The oldest frame that passes a test (docs/RULES.md, W7): along slots that hold their frames most recent first, its moment
+-- is earliest.
 use Prim.Native.Nat.{ℕ, _<_, _≤_}
 use native.Mathlib.Omega.{arith}
 use mathlib.Core.Path.{_≡_, refl, sym, _∙_, ap}
 use mathlib.Core.Bool.{Bool, true, false, cond}
 use mathlib.Core.List.{List, [], _∷_}
 use lib.Dec.{ltb, eqb}
-use lib.ListN.{getD}
 use borrow.Author.Tests.{eqb-true, eqb-false, lt-ltb, le-ltb, ltb-true, ltb-false}
 use Rattle.rules.specs.Limits.{frames}
-use Rattle.row_theory.specs.States.{idle}
-use Rattle.row_theory.specs.Slots.{empty, framesIn, marked, older, oldest, count}
+use Rattle.rules.specs.Lists.{times}
+use Rattle.rules.specs.Cases.{by-cases}
+use Rattle.row_theory.specs.Slots.{empty, framesIn, passes, older, oldest}
 use Rattle.row_theory.specs.Runs.{Earlier, Recent}
-use Rattle.row_theory.specs.Counting.{by-test, and-left, and-right, count-same, count-other}
+use Rattle.row_theory.specs.Counting.{and-left, times-cons, times-same, times-other}
 use Rattle.row_theory.specs.SlotLaws.{framesIn-frame, framesIn-empty}
 
--- a mark is borne by frames only
-pub marked-frame : (marks : List ℕ) (x : ℕ) → marked marks x ≡ true → x < frames
-unfolding marked
-marked-frame marks x e = ltb-true x frames (and-left (ltb x frames) (eqb (getD marks x 0) idle) e)
+-- what passes is a frame
+pub passes-frame : (may : ℕ → Bool) (x : ℕ) → passes may x ≡ true → x < frames
+unfolding passes
+passes-frame may x e = ltb-true x frames (and-left (ltb x frames) (may x) e)
 
-pub marked-mark : (marks : List ℕ) (x : ℕ) → marked marks x ≡ true → getD marks x 0 ≡ idle
-unfolding marked
-marked-mark marks x e = eqb-true (getD marks x 0) idle (and-right (ltb x frames) (eqb (getD marks x 0) idle) e)
+pub passes-empty : (may : ℕ → Bool) (x : ℕ) → frames ≤ x → passes may x ≡ false
+unfolding passes
+passes-empty may x h = rw (le-ltb x frames h)
 
-pub marked-empty : (marks : List ℕ) (x : ℕ) → frames ≤ x → marked marks x ≡ false
-unfolding marked
-marked-empty marks x h = rw (le-ltb x frames h)
-
--- the last of a row's slots with a mark is the frame, and without one the rest of the row decides
-pub oldest-cons : (marks : List ℕ) (x : ℕ) (row : List ℕ) → oldest marks (x ∷ row) ≡ older (oldest marks row) (cond (marked marks x) x empty)
+-- the last slot of a row whose frame passes has the oldest; where none does, the rest of the row decides
+pub oldest-cons : (may : ℕ → Bool) (x : ℕ) (row : List ℕ) →
+    oldest may (x ∷ row) ≡ older (oldest may row) (cond (passes may x) x empty)
 unfolding oldest
-oldest-cons marks x row = refl
+oldest-cons may x row = refl
+
+-- tests that agree choose alike
+pub oldest-same : {may also : ℕ → Bool} (row : List ℕ) → ((x : ℕ) → may x ≡ also x) → oldest may row ≡ oldest also row
+unfolding oldest passes
+oldest-same [] agree = refl
+oldest-same {may} {also} (x ∷ row) agree = rw (agree x, oldest-same row agree)
 
 older-old : (old young : ℕ) → old < frames → older old young ≡ old
 unfolding older
@@ -40,91 +44,103 @@ older-young : (old young : ℕ) → frames ≤ old → older old young ≡ young
 unfolding older
 older-young old young h = rw (le-ltb old frames h)
 
-pub oldest-behind : (marks : List ℕ) (x : ℕ) (row : List ℕ) → oldest marks row < frames → oldest marks (x ∷ row) ≡ oldest marks row
-oldest-behind marks x row h = oldest-cons marks x row ∙ older-old (oldest marks row) (cond (marked marks x) x empty) h
+pub oldest-behind : (may : ℕ → Bool) (x : ℕ) (row : List ℕ) → oldest may row < frames → oldest may (x ∷ row) ≡ oldest may row
+oldest-behind may x row h = oldest-cons may x row ∙ older-old (oldest may row) (cond (passes may x) x empty) h
 
-pub oldest-here : (marks : List ℕ) (x : ℕ) (row : List ℕ) → frames ≤ oldest marks row → marked marks x ≡ true → oldest marks (x ∷ row) ≡ x
-oldest-here marks x row h e = oldest-cons marks x row ∙ older-young (oldest marks row) (cond (marked marks x) x empty) h ∙ ap (λ (b : Bool). cond b x empty) e
+oldest-last : (may : ℕ → Bool) (x : ℕ) (row : List ℕ) → frames ≤ oldest may row →
+    oldest may (x ∷ row) ≡ cond (passes may x) x empty
+oldest-last may x row h = oldest-cons may x row ∙ older-young (oldest may row) (cond (passes may x) x empty) h
 
-pub oldest-not : (marks : List ℕ) (x : ℕ) (row : List ℕ) → frames ≤ oldest marks row → marked marks x ≡ false → oldest marks (x ∷ row) ≡ empty
-oldest-not marks x row h e = oldest-cons marks x row ∙ older-young (oldest marks row) (cond (marked marks x) x empty) h ∙ ap (λ (b : Bool). cond b x empty) e
+pub oldest-here : (may : ℕ → Bool) (x : ℕ) (row : List ℕ) → frames ≤ oldest may row → passes may x ≡ true →
+    oldest may (x ∷ row) ≡ x
+oldest-here may x row h e = oldest-last may x row h ∙ rw e
 
--- where there is no marked frame, the answer is `empty`
-pub oldest-none-empty : (marks row : List ℕ) → frames ≤ oldest marks row → oldest marks row ≡ empty
-oldest-none-empty marks [] h = unfold oldest in refl
-oldest-none-empty marks (x ∷ row) h =
-    by-test (ltb (oldest marks row) frames)
-    (λ e. let small : oldest marks row < frames = ltb-true (oldest marks row) frames e in
-    absurd (omega (arith, oldest-behind marks x row small)))
-    (λ e. let none : frames ≤ oldest marks row = ltb-false (oldest marks row) frames e in
-    by-test (marked marks x)
-    (λ m. absurd (omega (arith, oldest-here marks x row none m, marked-frame marks x m)))
-    (λ m. oldest-not marks x row none m))
+pub oldest-not : (may : ℕ → Bool) (x : ℕ) (row : List ℕ) → frames ≤ oldest may row → passes may x ≡ false →
+    oldest may (x ∷ row) ≡ empty
+oldest-not may x row h e = oldest-last may x row h ∙ rw e
+
+-- where no frame passes, the answer is `empty`
+pub oldest-none-empty : (may : ℕ → Bool) (row : List ℕ) → frames ≤ oldest may row → oldest may row ≡ empty
+oldest-none-empty may [] h = unfold oldest in refl
+oldest-none-empty may (x ∷ row) h =
+    by-cases (ltb (oldest may row) frames)
+    (λ e. let small : oldest may row < frames = ltb-true (oldest may row) frames e in
+    absurd (omega (arith, oldest-behind may x row small)))
+    (λ e. let none : frames ≤ oldest may row = ltb-false (oldest may row) frames e in
+    by-cases (passes may x)
+    (λ m. absurd (omega (arith, oldest-here may x row none m, passes-frame may x m)))
+    (λ m. oldest-not may x row none m))
 
 -- empty slots make no difference
-pub oldest-skip : (marks : List ℕ) (x : ℕ) (row : List ℕ) → marked marks x ≡ false → oldest marks (x ∷ row) ≡ oldest marks row
-oldest-skip marks x row m =
-    by-test (ltb (oldest marks row) frames)
-    (λ e. oldest-behind marks x row (ltb-true (oldest marks row) frames e))
-    (λ e. let none : frames ≤ oldest marks row = ltb-false (oldest marks row) frames e in
-    oldest-not marks x row none m ∙ sym (oldest-none-empty marks row none))
+pub oldest-skip : (may : ℕ → Bool) (x : ℕ) (row : List ℕ) → passes may x ≡ false → oldest may (x ∷ row) ≡ oldest may row
+oldest-skip may x row m =
+    by-cases (ltb (oldest may row) frames)
+    (λ e. oldest-behind may x row (ltb-true (oldest may row) frames e))
+    (λ e. let none : frames ≤ oldest may row = ltb-false (oldest may row) frames e in
+    oldest-not may x row none m ∙ sym (oldest-none-empty may row none))
 
-pub oldest-framesIn : (marks row : List ℕ) → oldest marks (framesIn row) ≡ oldest marks row
-oldest-framesIn marks [] = unfold framesIn in refl
-oldest-framesIn marks (x ∷ row) =
-    by-test (ltb x frames)
-    (λ e. rw (framesIn-frame x row (ltb-true x frames e), oldest-cons marks x (framesIn row), oldest-cons marks x row) (ap (λ (v : ℕ). older v (cond (marked marks x) x empty)) (oldest-framesIn marks row)))
+pub oldest-framesIn : (may : ℕ → Bool) (row : List ℕ) → oldest may (framesIn row) ≡ oldest may row
+oldest-framesIn may [] = unfold framesIn in refl
+oldest-framesIn may (x ∷ row) =
+    by-cases (ltb x frames)
+    (λ e. rw (framesIn-frame x row (ltb-true x frames e), oldest-cons may x (framesIn row), oldest-cons may x row)
+    (ap (λ (v : ℕ). older v (cond (passes may x) x empty)) (oldest-framesIn may row)))
     (λ e. let none : frames ≤ x = ltb-false x frames e in
-    rw (framesIn-empty x row none) (oldest-framesIn marks row ∙ sym (oldest-skip marks x row (marked-empty marks x none))))
+    rw (framesIn-empty x row none) (oldest-framesIn may row ∙ sym (oldest-skip may x row (passes-empty may x none))))
 
--- if the answer is no frame, no frame of the list bears the mark
-pub oldest-none : (marks list : List ℕ) → frames ≤ oldest marks list → (frame : ℕ) → 0 < count frame list → marked marks frame ≡ true → ⊥
-oldest-none marks [] h frame inside m = unfold count in omega arith
-oldest-none marks (x ∷ list) h frame inside m =
-    by-test (ltb (oldest marks list) frames)
-    (λ e. let small : oldest marks list < frames = ltb-true (oldest marks list) frames e in
-    omega (arith, oldest-behind marks x list small))
-    (λ e. let none : frames ≤ oldest marks list = ltb-false (oldest marks list) frames e in
-    by-test (eqb x frame)
-    (λ same. let there : marked marks x ≡ true = rw (eqb-true x frame same) m in
-    omega (arith, oldest-here marks x list none there, marked-frame marks x there))
-    (λ other. oldest-none marks list none frame (omega (arith, count-other frame x list (eqb-false x frame other))) m))
+-- if the answer is no frame, no frame of the list passes
+pub oldest-none : (may : ℕ → Bool) (list : List ℕ) → frames ≤ oldest may list → (frame : ℕ) → 0 < times frame list →
+    passes may frame ≡ true → ⊥
+oldest-none may [] h frame inside m = unfold times in omega arith
+oldest-none may (x ∷ list) h frame inside m =
+    by-cases (ltb (oldest may list) frames)
+    (λ e. let small : oldest may list < frames = ltb-true (oldest may list) frames e in
+    omega (arith, oldest-behind may x list small))
+    (λ e. let none : frames ≤ oldest may list = ltb-false (oldest may list) frames e in
+    by-cases (eqb x frame)
+    (λ same. let there : passes may x ≡ true = rw (eqb-true x frame same) m in
+    omega (arith, oldest-here may x list none there, passes-frame may x there))
+    (λ other. oldest-none may list none frame (omega (arith, times-other frame x list (eqb-false x frame other))) m))
 
--- a marked frame of the list whose moment is before every other's
-pub record Chosen (marks list : List ℕ) (moment : ℕ → ℕ) (frame : ℕ) : Type 0 where
-  pub bears : marked marks frame ≡ true
-  pub there : 0 < count frame list
-  pub earliest : (other : ℕ) → (frame ≡ other → ⊥) → 0 < count other list → marked marks other ≡ true → moment frame < moment other
+-- a frame of the list that passes, and whose moment is before every other's
+pub record EarliestPassing (may : ℕ → Bool) (list : List ℕ) (moment : ℕ → ℕ) (frame : ℕ) : Type 0 where
+  pub bears : passes may frame ≡ true
+  pub there : 0 < times frame list
+  pub earliest : (other : ℕ) → (frame ≡ other → ⊥) → 0 < times other list → passes may other ≡ true → moment frame < moment other
 
-chosen-behind : (marks : List ℕ) (moment : ℕ → ℕ) (x : ℕ) (list : List ℕ) (frame : ℕ) → Earlier moment (moment x) list → Chosen marks list moment frame → Chosen marks (x ∷ list) moment frame
-chosen-behind marks moment x list frame earlier chosen =
+chosen-behind : (may : ℕ → Bool) (moment : ℕ → ℕ) (x : ℕ) (list : List ℕ) (frame : ℕ) → Earlier moment (moment x) list →
+    EarliestPassing may list moment frame → EarliestPassing may (x ∷ list) moment frame
+chosen-behind may moment x list frame earlier chosen =
     record {
       bears = chosen .bears;
-      there = unfold count in omega (arith, chosen .there);
-      earliest = λ other apart inside m. by-test (eqb x other)
+      there = omega (arith, times-cons frame x list, chosen .there);
+      earliest = λ other apart inside m. by-cases (eqb x other)
           (λ same. let e : x ≡ other = eqb-true x other same in rw (← e) (earlier frame (chosen .there)))
-          (λ ne. chosen .earliest other apart (omega (arith, count-other other x list (eqb-false x other ne))) m);
+          (λ ne. chosen .earliest other apart (omega (arith, times-other other x list (eqb-false x other ne))) m);
     }
 
-chosen-here : (marks : List ℕ) (moment : ℕ → ℕ) (x : ℕ) (list : List ℕ) → frames ≤ oldest marks list → marked marks x ≡ true → Chosen marks (x ∷ list) moment x
-chosen-here marks moment x list none m =
+chosen-here : (may : ℕ → Bool) (moment : ℕ → ℕ) (x : ℕ) (list : List ℕ) → frames ≤ oldest may list → passes may x ≡ true →
+    EarliestPassing may (x ∷ list) moment x
+chosen-here may moment x list none m =
     record {
       bears = m;
-      there = omega (arith, count-same x x list refl);
-      earliest = λ other apart inside mo. by-test (eqb x other)
+      there = omega (arith, times-same x x list refl);
+      earliest = λ other apart inside mo. by-cases (eqb x other)
           (λ same. absurd (apart (eqb-true x other same)))
-          (λ ne. absurd (oldest-none marks list none other (omega (arith, count-other other x list (eqb-false x other ne))) mo));
+          (λ ne. absurd (oldest-none may list none other (omega (arith, times-other other x list (eqb-false x other ne))) mo));
     }
 
--- W7: if the answer is a frame, it is the marked one whose moment is earliest
-pub oldest-chosen : (marks : List ℕ) (moment : ℕ → ℕ) (list : List ℕ) → Recent moment list → oldest marks list < frames → Chosen marks list moment (oldest marks list)
-oldest-chosen marks moment [] order h = absurd (unfold oldest in omega arith)
-oldest-chosen marks moment (x ∷ list) order h =
+-- W7: if the answer is a frame, its moment is the earliest of those that pass
+pub oldest-chosen : (may : ℕ → Bool) (moment : ℕ → ℕ) (list : List ℕ) → Recent moment list → oldest may list < frames →
+    EarliestPassing may list moment (oldest may list)
+oldest-chosen may moment [] order h = absurd (unfold oldest in omega arith)
+oldest-chosen may moment (x ∷ list) order h =
     let parts : Earlier moment (moment x) list × Recent moment list = unfold Recent in order in
-    by-test (ltb (oldest marks list) frames)
-    (λ e. let small : oldest marks list < frames = ltb-true (oldest marks list) frames e in
-    rw (oldest-behind marks x list small) (chosen-behind marks moment x list (oldest marks list) (parts .0) (oldest-chosen marks moment list (parts .1) small)))
-    (λ e. let none : frames ≤ oldest marks list = ltb-false (oldest marks list) frames e in
-    by-test (marked marks x)
-    (λ m. rw (oldest-here marks x list none m) (chosen-here marks moment x list none m))
-    (λ m. absurd (omega (arith, oldest-not marks x list none m))))
+    by-cases (ltb (oldest may list) frames)
+    (λ e. let small : oldest may list < frames = ltb-true (oldest may list) frames e in
+    rw (oldest-behind may x list small)
+    (chosen-behind may moment x list (oldest may list) (parts .0) (oldest-chosen may moment list (parts .1) small)))
+    (λ e. let none : frames ≤ oldest may list = ltb-false (oldest may list) frames e in
+    by-cases (passes may x)
+    (λ m. rw (oldest-here may x list none m) (chosen-here may moment x list none m))
+    (λ m. absurd (omega (arith, oldest-not may x list none m))))

@@ -1,13 +1,13 @@
 -- The frame row (docs/RULES.md, W1 to W7): its whole state, what each call makes of it, and what each call answers.
 use Prim.Native.Nat.{ℕ}
-use mathlib.Core.Bool.{cond}
+use mathlib.Core.Bool.{Bool, true, cond, _&&_}
 use mathlib.Core.List.{List}
 use lib.Dec.{ltb, eqb}
-use lib.ListN.{replicate}
+use lib.ListN.{getD, replicate}
 use Rattle.rules.specs.Limits.{frames}
 use Rattle.rules.specs.Limits
 use Rattle.rules.specs.Refusals.{nothingHeld, allBusy}
-use Rattle.row_theory.specs.States.{Call, freshStates, heldIn, refusalOf, accepts, statesThen}
+use Rattle.row_theory.specs.States.{Call, idle, stateOf, freshStates, heldIn, refusalOf, accepts, statesThen}
 use Rattle.row_theory.specs.Slots.{empty, slotsThen, frontThen, examinedThen, oldest}
 use Rattle.row_theory.specs.declared.Reply.{Reply}
 use Rattle.row_theory.specs.declared.Reply.the-variants.{Done, Refused}
@@ -22,8 +22,8 @@ pub record Row : Type 0 where
   pub held : ℕ
 
 -- W1: a fresh row holds nothing, and its front is past the last slot
-unfoldable pub fresh : Row
-fresh = record { slots = replicate Limits.slots empty; states = freshStates; front = Limits.slots; held = 0 }
+unfoldable pub emptyRow : Row
+emptyRow = record { slots = replicate Limits.slots empty; states = freshStates; front = Limits.slots; held = 0 }
 
 -- what an accepted call makes of the row
 unfoldable pub moved : Row → Call → Row
@@ -46,24 +46,39 @@ replyOf row call =
     (Refused (record { number = refusalOf (row .states) call; place = 0 }))
 
 -- the rules' number of a reply (0: no refusal), its place, and its slots examined
-abbrev pub numberOf : Reply → ℕ
-numberOf (Done n) = 0
-numberOf (Refused r) = r .number
+abbrev pub replyNumber : Reply → ℕ
+replyNumber (Done n) = 0
+replyNumber (Refused r) = r .number
 
-abbrev pub placeOf : Reply → ℕ
-placeOf (Done n) = 0
-placeOf (Refused r) = r .place
+abbrev pub replyPlace : Reply → ℕ
+replyPlace (Done n) = 0
+replyPlace (Refused r) = r .place
 
 abbrev pub examinedOf : Reply → ℕ
 examinedOf (Done n) = n
 examinedOf (Refused r) = 0
 
--- R26, R27, W7: the victim among the frames with a mark, of these slots with so many frames held
-unfoldable pub victimAmong : List ℕ → List ℕ → ℕ → Victim
-victimAmong marks slots held =
-    cond (ltb (oldest marks slots) frames) (victim.Given (record { 0 = oldest marks slots }))
-    (victim.Refused (record { number = cond (eqb held 0) nothingHeld allBusy; place = 0 }))
+-- which frames a caller lets go: any, or those that bear this mark in a table of marks
+abbrev pub anyFrame : ℕ → Bool
+anyFrame frame = true
 
--- W7: the idle frames are those that may be given up
-unfoldable pub victimOf : Row → Victim
-victimOf row = victimAmong (row .states) (row .slots) (row .held)
+abbrev pub givable : ℕ
+givable = 1
+
+unfoldable pub hasMark : List ℕ → ℕ → Bool
+hasMark marks frame = eqb (getD marks frame 0) givable
+
+-- W7: a frame that is idle, and that the caller lets go
+unfoldable pub idleAmong : (ℕ → Bool) → List ℕ → ℕ → Bool
+idleAmong may states frame = eqb (stateOf states frame) idle && may frame
+
+-- R26, R27, W7: the oldest idle frame among those that the caller lets go
+unfoldable pub victimAmong : (ℕ → Bool) → Row → Victim
+victimAmong may row =
+    let given = oldest (idleAmong may (row .states)) (row .slots) in
+    cond (ltb given frames) (victim.Given (record { 0 = given }))
+    (victim.Refused (record { number = cond (eqb (row .held) 0) nothingHeld allBusy; place = 0 }))
+
+-- W7: the row's own victim
+abbrev pub victimOf : Row → Victim
+victimOf row = victimAmong anyFrame row

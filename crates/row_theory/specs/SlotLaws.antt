@@ -9,12 +9,10 @@ use lib.ListN.{length, getD, set, replicate, length-append, length-replicate}
 use lib.Seq.{getD-set-other}
 use borrow.Author.Tests.{ne-eqb, eqb-true, lt-ltb, le-ltb, ltb-true, ltb-false}
 use Rattle.rules.specs.Limits.{frames}
-use Rattle.row_theory.specs.Slots.{empty, framesIn, emptied, squeezedFront, squeezed, count}
-use Rattle.row_theory.specs.Counting.{by-test, without, without-same}
-
--- W1: all slots below a mark are empty
-abbrev pub Clear : ℕ → List ℕ → Type 0
-Clear mark row = (i : ℕ) → i < mark → getD row i empty ≡ empty
+use Rattle.rules.specs.Lists.{times, without}
+use Rattle.rules.specs.Cases.{by-cases}
+use Rattle.row_theory.specs.Slots.{empty, Clear, framesIn, emptied, squeezedFront, squeezed}
+use Rattle.row_theory.specs.Counting.{times-cons, without-same}
 
 pub framesIn-frame : (x : ℕ) (row : List ℕ) → x < frames → framesIn (x ∷ row) ≡ x ∷ framesIn row
 unfolding framesIn
@@ -27,7 +25,7 @@ framesIn-empty x row h = rw (le-ltb x frames h)
 pub framesIn-length : (row : List ℕ) → length (framesIn row) ≤ length row
 framesIn-length [] = unfold framesIn in zero-le
 framesIn-length (x ∷ row) =
-    by-test (ltb x frames)
+    by-cases (ltb x frames)
     (λ e. rw (framesIn-frame x row (ltb-true x frames e)) (omega (arith, framesIn-length row)))
     (λ e. rw (framesIn-empty x row (ltb-false x frames e)) (omega (arith, framesIn-length row)))
 
@@ -36,37 +34,37 @@ unfolding squeezedFront
 squeezedFront-rest row = omega (arith, framesIn-length row)
 
 -- a frame stands in the slots as often as among their frames
-pub count-framesIn : (frame : ℕ) (row : List ℕ) → frame < frames → count frame (framesIn row) ≡ count frame row
-unfolding count framesIn
-count-framesIn frame [] h = refl
-count-framesIn frame (x ∷ row) h =
-    by-test (ltb x frames)
-    (λ e. rw e (omega (arith, count-framesIn frame row h)))
+pub times-framesIn : (frame : ℕ) (row : List ℕ) → frame < frames → times frame (framesIn row) ≡ times frame row
+unfolding times framesIn
+times-framesIn frame [] h = refl
+times-framesIn frame (x ∷ row) h =
+    by-cases (ltb x frames)
+    (λ e. rw e (omega (arith, times-cons frame x row, times-cons frame x (framesIn row), times-framesIn frame row h)))
     (λ e. let big : frames ≤ x = ltb-false x frames e in
     let other : x ≡ frame → ⊥ = λ same. omega arith in
-    rw (e, ne-eqb x frame other) (omega (arith, count-framesIn frame row h)))
+    rw (e, ne-eqb x frame other) (omega (arith, times-framesIn frame row h)))
 
 -- what is no frame's number is not among the frames
-pub count-past : (x : ℕ) (row : List ℕ) → frames ≤ x → count x (framesIn row) ≡ 0
-unfolding count framesIn
-count-past x [] h = refl
-count-past x (y ∷ row) h =
-    by-test (ltb y frames)
+pub times-past : (x : ℕ) (row : List ℕ) → frames ≤ x → times x (framesIn row) ≡ 0
+unfolding times framesIn
+times-past x [] h = refl
+times-past x (y ∷ row) h =
+    by-cases (ltb y frames)
     (λ e. let small : y < frames = ltb-true y frames e in
     let other : y ≡ x → ⊥ = λ same. omega arith in
-    rw (e, ne-eqb y x other) (omega (arith, count-past x row h)))
-    (λ e. rw e (count-past x row h))
+    rw (e, ne-eqb y x other) (omega (arith, times-past x row h)))
+    (λ e. rw e (times-past x row h))
 
 -- W4: emptying a frame's slot takes the frame out
 pub framesIn-emptied : (frame : ℕ) (row : List ℕ) → frame < frames → framesIn (emptied frame row) ≡ without frame (framesIn row)
 unfolding framesIn emptied without
 framesIn-emptied frame [] h = refl
 framesIn-emptied frame (x ∷ row) h =
-    by-test (eqb x frame)
+    by-cases (eqb x frame)
     (λ e. let same : x ≡ frame = eqb-true x frame e in
     let small : x < frames = omega arith in
     rw e (sym (ap (without frame) (framesIn-frame x row small) ∙ without-same frame x (framesIn row) same)))
-    (λ e. by-test (ltb x frames)
+    (λ e. by-cases (ltb x frames)
     (λ small. rw (e, small, e) (ap (λ l. x ∷ l) (framesIn-emptied frame row h)))
     (λ big. rw (e, big) (framesIn-emptied frame row h)))
 
@@ -74,7 +72,7 @@ pub emptied-length : (frame : ℕ) (row : List ℕ) → length (emptied frame ro
 unfolding emptied
 emptied-length frame [] = refl
 emptied-length frame (x ∷ row) =
-    by-test (eqb x frame) (λ e. rw e) (λ e. rw e (ap suc (emptied-length frame row)))
+    by-cases (eqb x frame) (λ e. rw e) (λ e. rw e (ap suc (emptied-length frame row)))
 
 pub emptied-clear : (frame : ℕ) (row : List ℕ) (mark : ℕ) → frame < frames → Clear mark row → Clear mark (emptied frame row)
 unfolding emptied
@@ -97,8 +95,9 @@ framesIn-replicate (suc n) row = framesIn-empty empty (replicate n empty ++ row)
 framesIn-again : (row : List ℕ) → framesIn (framesIn row) ≡ framesIn row
 framesIn-again [] = unfold framesIn in refl
 framesIn-again (x ∷ row) =
-    by-test (ltb x frames)
-    (λ e. rw (framesIn-frame x row (ltb-true x frames e), framesIn-frame x (framesIn row) (ltb-true x frames e)) (ap (λ l. x ∷ l) (framesIn-again row)))
+    by-cases (ltb x frames)
+    (λ e. rw (framesIn-frame x row (ltb-true x frames e), framesIn-frame x (framesIn row) (ltb-true x frames e))
+    (ap (λ l. x ∷ l) (framesIn-again row)))
     (λ e. rw (framesIn-empty x row (ltb-false x frames e)) (framesIn-again row))
 
 -- W3: squeezing keeps the frames and their order
@@ -120,7 +119,8 @@ unfolding squeezed
 squeezed-clear row = clear-replicate (squeezedFront row) (framesIn row)
 
 -- W2: a frame put into the last of the empty slots at the front becomes the most recent
-pub framesIn-set : (row : List ℕ) (k frame : ℕ) → frame < frames → k < length row → Clear (suc k) row → framesIn (set row k frame) ≡ frame ∷ framesIn row
+pub framesIn-set : (row : List ℕ) (k frame : ℕ) → frame < frames → k < length row → Clear (suc k) row →
+    framesIn (set row k frame) ≡ frame ∷ framesIn row
 framesIn-set [] k frame h inside clear = absurd (not-suc-le-zero inside)
 framesIn-set (x ∷ row) zero frame h inside clear =
     let none : x ≡ empty = clear 0 (suc-le-suc zero-le) in

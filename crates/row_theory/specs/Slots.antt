@@ -1,11 +1,13 @@
--- The slots of the row (docs/RULES.md, W1 to W5, W7; Hoogerwoord 1992, section 1): emptying a slot, squeezing, taking a slot, the oldest frame.
-use Prim.Native.Nat.{ℕ, zero, suc, _+_, _-_}
+-- The slots of the row (docs/RULES.md, W1 to W5, W7; Hoogerwoord 1992, section 1): emptying a slot, squeezing, taking a slot,
+-- the oldest frame.
+use Prim.Native.Nat.{ℕ, zero, suc, _-_, _<_}
+use mathlib.Core.Path.{_≡_}
 use mathlib.Core.Bool.{Bool, cond, _&&_}
 use mathlib.Core.List.{List, [], _∷_, _++_}
 use lib.Dec.{ltb, eqb}
 use lib.ListN.{length, getD, set, replicate}
 use Rattle.rules.specs.Limits.{frames, slots}
-use Rattle.row_theory.specs.States.{idle, moves}
+use Rattle.row_theory.specs.States.{moves}
 use Rattle.row_theory.specs.declared.Event.{Event}
 use Rattle.row_theory.specs.declared.Event.the-variants.{Put, Touch, Start, End, Drop}
 
@@ -18,10 +20,9 @@ unfoldable pub framesIn : List ℕ → List ℕ
 framesIn [] = []
 framesIn (x ∷ row) = cond (ltb x frames) (x ∷ framesIn row) (framesIn row)
 
--- how often a number stands in a list
-unfoldable pub count : ℕ → List ℕ → ℕ
-count x [] = 0
-count x (y ∷ list) = cond (eqb y x) 1 0 + count x list
+-- W1: all slots below a front mark are empty
+abbrev pub Clear : ℕ → List ℕ → Type 0
+Clear mark row = (i : ℕ) → i < mark → getD row i empty ≡ empty
 
 -- W4: the frame's slot emptied
 unfoldable pub emptied : ℕ → List ℕ → List ℕ
@@ -49,56 +50,46 @@ squeezedFront row = length row - length (framesIn row)
 unfoldable pub squeezed : List ℕ → List ℕ
 squeezed row = replicate (squeezedFront row) empty ++ framesIn row
 
--- W2: the slots and the front just before a frame takes its slot
+-- W2: the slots and the front just before a frame takes its slot: squeezed if the front is 0
 unfoldable pub roomySlots : List ℕ → ℕ → List ℕ
 roomySlots row front = cond (eqb front 0) (squeezed row) row
 
 unfoldable pub roomyFront : List ℕ → ℕ → ℕ
 roomyFront row front = cond (eqb front 0) (squeezedFront row) front
 
--- W2: the front falls by one, and that slot takes the frame
-unfoldable pub seatedFront : List ℕ → ℕ → ℕ
-seatedFront row front = roomyFront row front - 1
+-- W4: a touch or a drop empties its frame's slot
+unfoldable pub vacated : Event → ℕ → List ℕ → List ℕ
+vacated Put frame row = row
+vacated Touch frame row = emptied frame row
+vacated Start frame row = row
+vacated End frame row = row
+vacated Drop frame row = emptied frame row
 
-unfoldable pub seated : List ℕ → ℕ → ℕ → List ℕ
-seated row front frame = set (roomySlots row front) (seatedFront row front) frame
-
--- W4: the slots as a put or a touch finds them when its frame takes a slot
-unfoldable pub seating : Event → ℕ → List ℕ → List ℕ
-seating Put frame row = row
-seating Touch frame row = emptied frame row
-seating Start frame row = row
-seating End frame row = row
-seating Drop frame row = row
-
--- W2, W4: the slots and the front after an accepted call
+-- W2, W4: the slots and the front after an accepted call: then, for a put or a touch, the front falls by one and that slot
+-- takes the frame
 unfoldable pub slotsThen : Event → List ℕ → ℕ → ℕ → List ℕ
-slotsThen Put row front frame = seated row front frame
-slotsThen Touch row front frame = seated (emptied frame row) front frame
-slotsThen Start row front frame = row
-slotsThen End row front frame = row
-slotsThen Drop row front frame = emptied frame row
+slotsThen event row front frame =
+    let left = vacated event frame row in
+    cond (moves event) (set (roomySlots left front) (roomyFront left front - 1) frame) left
 
 unfoldable pub frontThen : Event → List ℕ → ℕ → ℕ → ℕ
-frontThen Put row front frame = seatedFront row front
-frontThen Touch row front frame = seatedFront (emptied frame row) front
-frontThen Start row front frame = front
-frontThen End row front frame = front
-frontThen Drop row front frame = front
+frontThen event row front frame =
+    let left = vacated event frame row in
+    cond (moves event) (roomyFront left front - 1) front
 
 -- W5: the slots examined by an accepted call
 unfoldable pub examinedThen : Event → ℕ → ℕ
 examinedThen event front = cond (moves event && eqb front 0) slots 0
 
--- is this a frame, and does it bear the mark that lets it be given up?
-unfoldable pub marked : List ℕ → ℕ → Bool
-marked marks x = ltb x frames && eqb (getD marks x 0) idle
+-- is this a frame, and one that passes the test?
+unfoldable pub passes : (ℕ → Bool) → ℕ → Bool
+passes may x = ltb x frames && may x
 
 -- of two slots' frames the one nearer the old end, if it is a frame
 unfoldable pub older : ℕ → ℕ → ℕ
 older old young = cond (ltb old frames) old young
 
--- W7: the marked frame nearest the old end, or `empty` if there is none
-unfoldable pub oldest : List ℕ → List ℕ → ℕ
-oldest marks [] = empty
-oldest marks (x ∷ row) = older (oldest marks row) (cond (marked marks x) x empty)
+-- W7: the frame nearest the old end that passes the test, or `empty` if there is none
+unfoldable pub oldest : (ℕ → Bool) → List ℕ → ℕ
+oldest may [] = empty
+oldest may (x ∷ row) = older (oldest may row) (cond (passes may x) x empty)

@@ -24,8 +24,8 @@ abbrev pub busy : ℕ
 busy = 2
 
 -- W6 as it is written: rows absent, idle, busy; columns put, touch, start, end, drop. An entry above `busy` is a refusal
-abbrev pub table : List (List ℕ)
-table =
+abbrev pub stateTable : List (List ℕ)
+stateTable =
     (idle ∷ notHeld ∷ notHeld ∷ notHeld ∷ notHeld ∷ [])
     ∷ (heldAlready ∷ idle ∷ busy ∷ idleFrame ∷ absent ∷ [])
     ∷ (heldAlready ∷ busy ∷ busyFrame ∷ idle ∷ busyFrame ∷ [])
@@ -39,8 +39,8 @@ column End = 3
 column Drop = 4
 
 -- the table's entry for a state and an event
-unfoldable pub entry : ℕ → Event → ℕ
-entry state event = getD (getD table state []) (column event) 0
+unfoldable pub tableAt : ℕ → Event → ℕ
+tableAt state event = getD (getD stateTable state []) (column event) 0
 
 -- R21 to R24 and W6 in words: the refusal of an event in a state, or the next state
 unfoldable pub ruleOf : ℕ → Event → ℕ
@@ -78,21 +78,29 @@ moves Start = false
 moves End = false
 moves Drop = false
 
--- O6: 20, then the table, then 25; 0 stands for "no refusal"
-unfoldable pub refusalOf : List ℕ → Call → ℕ
-refusalOf states call =
+-- the table's entry for a call: a next state or a refusal
+abbrev pub cellOf : List ℕ → Call → ℕ
+cellOf states call = tableAt (stateOf states (call .frame)) (call .event)
+
+-- O6, the verdict on a call: 20, then a refusal of the table, then 25; and if none applies the state that the table gives its
+-- frame
+unfoldable pub verdictOf : List ℕ → Call → ℕ
+verdictOf states call =
     cond (leb frames (call .frame)) badFrame
-    (cond (ltb busy (entry (stateOf states (call .frame)) (call .event))) (entry (stateOf states (call .frame)) (call .event))
-    (cond (isPut (call .event) && leb held (heldIn states)) rowFull 0))
+    (cond (ltb busy (cellOf states call)) (cellOf states call)
+    (cond (isPut (call .event) && leb held (heldIn states)) rowFull (cellOf states call)))
 
 unfoldable pub accepts : List ℕ → Call → Bool
-accepts states call = eqb (refusalOf states call) 0
+accepts states call = leb (verdictOf states call) busy
+
+-- the refusal's number; 0 stands for "no refusal"
+unfoldable pub refusalOf : List ℕ → Call → ℕ
+refusalOf states call = cond (accepts states call) 0 (verdictOf states call)
 
 -- every frame absent
 abbrev pub freshStates : List ℕ
 freshStates = replicate frames absent
 
--- the states after a call: an accepted one gives its frame the table's entry
+-- the states after a call: an accepted one gives its frame the table's next state
 unfoldable pub statesThen : List ℕ → Call → List ℕ
-statesThen states call =
-    cond (accepts states call) (set states (call .frame) (entry (stateOf states (call .frame)) (call .event))) states
+statesThen states call = cond (accepts states call) (set states (call .frame) (verdictOf states call)) states

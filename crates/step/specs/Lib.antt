@@ -4,6 +4,8 @@
 pub mod Stepped
 pub mod Referred
 pub mod Shown
+-- Two answers that meet a promise are equal:
+pub mod Promises
 -- Laws: of one step, and of a run that is kept in memory, reference by reference.
 pub mod Shifting
 pub mod EntryLengths

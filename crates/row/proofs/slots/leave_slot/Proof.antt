@@ -1,7 +1,7 @@
 -- `row::slots::leave_slot` meets its contract: the place read is the frame's slot. Assumes nothing.
 use native.Mathlib.Omega.{arith}
-use Rattle.row_theory.specs.LendingLaws.{leaving}
 use borrow.Author.Needs.{needs}
+use Rattle.row_theory.specs.LendingLaws.{leaving-inside, leaving}
 use Rattle.row.proofs.slots.leave_slot.Statement.{statement}
 use Rattle.row.proofs.slots.leave_slot.Tie as tie
 
@@ -9,16 +9,22 @@ element-copy-out-at : tie.Need-element-copy-out-at
 element-copy-out-at c = search needs
 
 cast-slots : tie.Need-cast-slots
-cast-slots c = omega (arith, leaving (c .before .args .slots .now) (c .before .args .places .now) (c .before .args .frame) (c .before .pre .0) (c .before .pre .1) (c .before .pre .2) .inside)
+cast-slots c =
+    let asked = c .before .pre in
+    omega (arith, leaving-inside (asked .0) (asked .1) (asked .2))
 
 element-write-slots : tie.Need-element-write-slots
-element-write-slots c = leaving (c .before .args .slots .now) (c .before .args .places .now) (c .before .args .frame) (c .before .pre .0) (c .before .pre .1) (c .before .pre .2) .inside
+element-write-slots c =
+    let asked = c .before .pre in
+    leaving-inside (asked .0) (asked .1) (asked .2)
 
 element-write-places : tie.Need-element-write-places
 element-write-places c = search needs
 
 returns : tie.Need-returns
-returns c = (leaving (c .before .args .slots .now) (c .before .args .places .now) (c .before .args .frame) (c .before .pre .0) (c .before .pre .1) (c .before .pre .2) .whole, leaving (c .before .args .slots .now) (c .before .args .places .now) (c .before .args .frame) (c .before .pre .0) (c .before .pre .1) (c .before .pre .2) .index)
+returns c =
+    let asked = c .before .pre in
+    leaving (asked .0) (asked .1) (asked .2)
 
 pub leave-slot-spec : {M : Type 1} → statement M
 leave-slot-spec =

@@ -1,4 +1,5 @@
--- `row::slots::squeeze` meets its contract. The invariant is `Packing`: the slots in the midst of the pass; the measure is the slots still to pass. Assumes nothing.
+-- `row::slots::squeeze` meets its contract. The invariant is `Packing`: the slots in the midst of the pass; the measure is
+-- the slots still to pass. Assumes nothing.
 use native.Mathlib.Omega.{arith}
 use Rattle.row_theory.specs.PackingLaws.{Packing, packing-start, pack-empty, pack-frame, packed}
 use Rattle.row.proofs.slots.squeeze.Statement.{statement}
@@ -41,13 +42,18 @@ loop-less : tie.Need-loop-less Inv-loop μ-loop
 loop-less c = omega arith
 
 loop-again : tie.Need-loop-again Inv-loop μ-loop
-loop-again c = pack-frame (c .before .before .before .before .pre .long) (c .before .before .before .before .pre .once) (c .before .before .before .loop .inv) (c .before .before .loop-test .taken) (c .if1 .taken)
+loop-again c =
+    let turn = c .before .before in
+    let asked = turn .before .before .pre in
+    pack-frame (asked .long) (turn .before .loop .inv) (turn .loop-test .taken) (asked .once) (c .if1 .taken)
 
 loop-less-2 : tie.Need-loop-less-2 Inv-loop μ-loop
 loop-less-2 c = omega arith
 
 loop-again-2 : tie.Need-loop-again-2 Inv-loop μ-loop
-loop-again-2 c = pack-empty (c .before .before .before .before .pre .long) (c .before .before .before .loop .inv) (c .before .before .loop-test .taken) (c .if1 .left)
+loop-again-2 c =
+    let turn = c .before .before in
+    pack-empty (turn .before .before .pre .long) (turn .before .loop .inv) (turn .loop-test .taken) (c .if1 .left)
 
 returns : tie.Need-returns Inv-loop μ-loop
 returns c = packed (c .before .before .pre .long) (c .before .loop .inv) (omega arith)

@@ -1,6 +1,6 @@
 -- `row::table::next` meets its contract: the constant table is the definition's, entry by entry. Assumes nothing.
-use Rattle.row_theory.specs.States.{entry}
 use borrow.Author.Needs.{needs}
+use Rattle.row_theory.specs.States.{tableAt}
 use Rattle.row.proofs.table.next.Statement.{statement}
 use Rattle.row.proofs.table.next.Tie as tie
 
@@ -41,23 +41,23 @@ array-read-result-5 : tie.Need-array-read-result-5
 array-read-result-5 c = search needs
 
 returns : tie.Need-returns
-unfolding entry
+unfolding tableAt
 returns c = rw (c .enum-told .given .1)
 
 returns-2 : tie.Need-returns-2
-unfolding entry
+unfolding tableAt
 returns-2 c = rw (c .enum-told2 .given .1)
 
 returns-3 : tie.Need-returns-3
-unfolding entry
+unfolding tableAt
 returns-3 c = rw (c .enum-told3 .given .1)
 
 returns-4 : tie.Need-returns-4
-unfolding entry
+unfolding tableAt
 returns-4 c = rw (c .enum-told4 .given .1)
 
 returns-5 : tie.Need-returns-5
-unfolding entry
+unfolding tableAt
 returns-5 c = rw (c .enum-told5 .given .1)
 
 pub next-spec : {M : Type 1} → statement M
