@@ -26,9 +26,6 @@ ghost use Rattle.file_theory.specs.Decoding.{pagesOf, referencesIn, traceBehind
 ghost use Rattle.file_theory.specs.Promises.{PartRead, FileRead};
 ghost use Rattle.file_theory.specs.Sections.{Found};
 
-// The longest file: two counts, and as many values as the limits allow (rule F5).
-pub const LONGEST: usize = 4 + 2 * CAPACITIES + 2 * REFERENCES;
-
 // The n references of a section that was found whole, with nothing behind it and no bad page among them.
 fn take_references(part: &[u8], n: usize, table: &mut [u16; REFERENCES]) -> Part
     requires { ⌜ Found referenceLimit (now part) n ⌝ }

@@ -1,13 +1,14 @@
--- The longest file (docs/RULES.md, F5): no accepted file is longer, and of a longer input its first bytes, one more than the longest file has, say all.
+-- The longest file (docs/RULES.md, F5): no accepted file is longer, and of a longer input its first bytes, one more than the
+-- longest file has, say all.
 use Prim.Native.Nat.{ℕ, suc, _+_, _≤_, _<_}
 use mathlib.Core.Path.{_≡_, sym, ap, _∙_}
 use mathlib.Core.Bool.{cond}
 use mathlib.Core.List.{List}
 use native.Mathlib.Omega.{arith}
-use borrow.Author.Tests.{lt-ltb, le-ltb, ltb-false}
+use borrow.Author.Tests.{lt-ltb, le-ltb, ltb-true, ltb-false}
 use lib.Dec.{ltb}
 use lib.ListN.{length, take, length-append, length-drop}
-use lib.Seq.{length-take-le, getD-take}
+use lib.Seq.{length-take-le, getD-take, take-all}
 use Rattle.rules.specs.Cases.{by-cases}
 use Rattle.rules.specs.Limits.{capacities, references}
 use Rattle.rules.specs.Refusals.{tooManyReferences, bytesLeft}
@@ -93,3 +94,15 @@ module _ (file : List ℕ) (long : longest < length file) where
       (by-cases (ltb capacities (numberAt file 0))
       (λ over. rw over)
       (λ within. rw within (same-trace (numberAt file 0) (ltb-false capacities (numberAt file 0) within))))
+
+-- F5: the first n bytes of a buffer are what came of an input: all of it, or one byte more than the longest file has
+abbrev pub Came : ℕ → List ℕ → List ℕ → Type 0
+Came n buffer input = take n buffer ≡ take (suc longest) input
+
+-- what came is read as the whole input is
+pub came-says : (n : ℕ) (buffer input : List ℕ) → Came n buffer input → traceIn (take n buffer) ≡ traceIn input
+came-says n buffer input came =
+    rw came
+    (by-cases (ltb longest (length input))
+    (λ long. first-bytes input (ltb-true longest (length input) long))
+    (λ short. rw (take-all (suc longest) input (omega (arith, ltb-false longest (length input) short)))))

@@ -1,5 +1,6 @@
 // The report's bytes (rules T1 and T2), written into a lent buffer. A client gets `report`, for any bytes at
-// all; its contract cites `report` of crate report_theory, a definition of the file's bytes.
+// all, and `report_input`, for a program that stops reading when its buffer is full (rule F5); their contracts
+// cite `report` of crate report_theory, a definition of the file's bytes.
 mod write;
 
 use file_theory::Counts;
@@ -23,8 +24,12 @@ ghost use Rattle.file_theory.specs.RoundTrip.{GoodTrace};
 ghost use Rattle.file_theory.specs.Callers.{Ready, inFront};
 ghost use Rattle.report_theory.specs.Report.{heading, ending, refusedLine, reportFor, report as reportOf};
 ghost use Rattle.report_theory.specs.Buffer.{Wrote, Printed};
+ghost use Rattle.report_theory.specs.Input.{InputPrinted};
 ghost use Rattle.report_theory.specs.Pieces.{longestLine};
 ghost use Rattle.report_theory.specs.Lines.{tableLines};
+
+// The bytes of an input that are looked at: two counts, as many values as the limits allow, and one byte more.
+pub const INPUT: usize = 5 + 2 * CAPACITIES + 2 * REFERENCES;
 
 // Room for the longest report: a line for each capacity, and the first and the last line.
 pub const REPORT: usize = 64 + LINE * CAPACITIES;
@@ -98,4 +103,16 @@ pub fn report(file: &[u8], out: &mut [u8; REPORT]) -> usize
         Reading::Refused(r) => put_refused(out, r),
         Reading::Accepted(counts) => put_accepted(out, &capacities, &references, counts),
     }
+}
+
+// The report of a whole input, of which the first `n` bytes of the buffer came before the buffer was full or the
+// input ended.
+pub fn report_input(input: &[u8; INPUT], n: usize, out: &mut [u8; REPORT]) -> usize
+    ensures { λ r. ⌜ InputPrinted (now (input .entry)) n (now (out .entry)) r (now (out .exit)) ⌝ }
+{
+    let all = &input[..];
+    if INPUT <= n {
+        return report(all, out);
+    }
+    report(&all[..n], out)
 }

@@ -6,4 +6,5 @@ pub mod Decimals
 pub mod Pieces
 pub mod Lines
 pub mod Outcomes
+pub mod Input
 pub mod Sample
