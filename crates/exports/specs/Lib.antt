@@ -9,3 +9,4 @@ pub mod FileLaws
 pub mod Session
 pub mod SessionLaws
 pub mod Once
+pub mod Driving
