@@ -11,26 +11,27 @@ use Rattle.rules.specs.Cases.{by-cases}
 use Rattle.rules.specs.Refusals.{numberOf}
 use Rattle.rules.specs.declared.Answer.the-variants.{Accepted}
 use Rattle.session.specs.History.{startAnswer}
-use Rattle.session.specs.Memory.{Alive, Valued, Listable, Counting}
+use Rattle.session.specs.Memory.{Valued, Listable, Counting}
 use Rattle.session.specs.StartLaws.{start-begun, start-gives}
 use Rattle.session.specs.Driving.{listable, counting, valued}
 use Rattle.row_theory.specs.States.{Call}
 use Rattle.row_theory.specs.Runs.{Reached}
 use Rattle.row_theory.specs.Promise.{Memory, rowIn, Stands, Started}
 use Rattle.exports.specs.declared.Told.{Told}
-use Rattle.exports.specs.declared.sessions.Found.{Found}
+use Rattle.exports.specs.declared.ToldNumber.{ToldNumber}
 use Rattle.exports.specs.declared.frame_row.Replied.{Replied}
-use Rattle.exports.specs.Session.{Lent, startLent, StartTold, ReferTold}
+use Rattle.exports.specs.Lent.{Lent}
+use Rattle.exports.specs.Session.{Lives, startLent, StartTold, ReferTold}
 use Rattle.exports.specs.Row.{RowTold}
 
 -- what the calls of a session ask of the memory that they are lent
 pub record SessionAsks (m : Lent) : Type 0 where
-  pub refer : Alive (m .value) (m .places) (m .depths) (m .counts)
+  pub refer : Lives m
   pub list : Listable (m .value) (m .places)
   pub references : Valued (m .value)
   pub hits-and-misses : Counting (m .value) (m .depths)
 
-alive-asks : {m : Lent} → Alive (m .value) (m .places) (m .depths) (m .counts) → SessionAsks m
+alive-asks : {m : Lent} → Lives m → SessionAsks m
 alive-asks a = record { refer = a; list = listable a; references = valued a; hits-and-misses = counting a }
 
 -- no refusal of a start has number 0
@@ -51,7 +52,7 @@ start-asks {policy} {k} p zero =
     (record { policy = policy; k = k; calls = []; gives = start-gives {places = []} {depths = []} {counts = []} (start-begun accepted) accepted }))
 
 -- whether the reference is accepted or refused
-pub refer-asks : {before after : Lent} {page : ℕ} {found : Found} → SessionAsks before → ReferTold before page after found → SessionAsks after
+pub refer-asks : {before after : Lent} {page : ℕ} {told : ToldNumber} → SessionAsks before → ReferTold before page after told → SessionAsks after
 refer-asks {page = page} asks p =
     let a = asks .refer in
     alive-asks

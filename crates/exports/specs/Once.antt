@@ -11,11 +11,12 @@ use Rattle.session.specs.Memory.{Listable, Counting}
 use Rattle.session.specs.Promises.{gives-unique}
 use Rattle.exports.specs.declared.Told.{Told}
 use Rattle.exports.specs.declared.frame_row.Replied.{Replied}
-use Rattle.exports.specs.declared.sessions.Found.{Found}
+use Rattle.exports.specs.declared.ToldNumber.{ToldNumber}
 use Rattle.exports.specs.Trace.{CountTold, ListTold}
 use Rattle.exports.specs.File.{FileTold}
 use Rattle.exports.specs.Row.{RowTold}
-use Rattle.exports.specs.Session.{Lent, Given, StartTold, ReferTold, ListShown, HitsTold, MissesTold}
+use Rattle.exports.specs.Lent.{Lent}
+use Rattle.exports.specs.Session.{Given, StartTold, ReferTold, ListShown, HitsTold, MissesTold}
 
 pub count-told-once : {trace before x y : List ℕ} {policy k : ℕ} {a b : Told} → CountTold trace policy k before x a → CountTold trace policy k before y b
     → (a ≡ b) × (x ≡ y)
@@ -37,7 +38,7 @@ pub start-told-once : {policy k : ℕ} {m m₁ m₂ : Lent} {a b : Told} → Sta
 start-told-once p q = (p .answer ∙ sym (q .answer), p .memory ∙ sym (q .memory))
 
 -- some history gives the session, which is all that the call asks
-pub refer-told-once : {policy k : ℕ} {calls : List ℕ} {m m₁ m₂ : Lent} {page : ℕ} {a b : Found} → Given policy k calls m
+pub refer-told-once : {policy k : ℕ} {calls : List ℕ} {m m₁ m₂ : Lent} {page : ℕ} {a b : ToldNumber} → Given policy k calls m
     → ReferTold m page m₁ a → ReferTold m page m₂ b → (a ≡ b) × (m₁ ≡ m₂)
 refer-told-once {policy} {k} {calls} g p q =
     let same = gives-unique (p .next policy k calls g) (q .next policy k calls g) in (
@@ -51,11 +52,11 @@ list-shown-once a p q = (
   p .shown-is (a .policy) (a .k) (a .calls) (a .value) (a .list) ∙ sym (q .shown-is (a .policy) (a .k) (a .calls) (a .value) (a .list)),
 )
 
-pub hits-told-once : {s : Session} {depths : List ℕ} {c : ℕ} {x y : Found} → Counting s depths → HitsTold s depths c x → HitsTold s depths c y → x ≡ y
+pub hits-told-once : {s : Session} {depths : List ℕ} {c : ℕ} {x y : ToldNumber} → Counting s depths → HitsTold s depths c x → HitsTold s depths c y → x ≡ y
 hits-told-once a p q =
     p .hits-are (a .policy) (a .k) (a .calls) (a .value) (a .tallied) ∙ sym (q .hits-are (a .policy) (a .k) (a .calls) (a .value) (a .tallied))
 
-pub misses-told-once : {s : Session} {depths : List ℕ} {c : ℕ} {x y : Found} → Counting s depths → MissesTold s depths c x → MissesTold s depths c y → x ≡ y
+pub misses-told-once : {s : Session} {depths : List ℕ} {c : ℕ} {x y : ToldNumber} → Counting s depths → MissesTold s depths c x → MissesTold s depths c y → x ≡ y
 misses-told-once a p q =
     p .misses-are (a .policy) (a .k) (a .calls) (a .value) (a .tallied)
     ∙ sym (q .misses-are (a .policy) (a .k) (a .calls) (a .value) (a .tallied))

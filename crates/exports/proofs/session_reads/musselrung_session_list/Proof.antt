@@ -1,8 +1,8 @@
--- `exports::sessions::musselrung_session_list`: what `session::list` promises, its pages told in numbers.
+-- `exports::session_reads::musselrung_session_list`: what `session::list` promises, its pages told in numbers.
 use mathlib.Core.Path.{_∙_}
 use borrow.Author.Needs.{needs}
-use Rattle.exports.proofs.sessions.musselrung_session_list.Statement.{statement}
-use Rattle.exports.proofs.sessions.musselrung_session_list.Tie as tie
+use Rattle.exports.proofs.session_reads.musselrung_session_list.Statement.{statement}
+use Rattle.exports.proofs.session_reads.musselrung_session_list.Tie as tie
 
 list-requires : tie.Need-list-requires
 list-requires c κs = search needs

@@ -1,8 +1,8 @@
--- `exports::sessions::musselrung_session_misses`: what `session::misses` promises, told in numbers.
+-- `exports::session_reads::musselrung_session_misses`: what `session::misses` promises, told in numbers.
 use mathlib.Core.Path.{_∙_}
 use borrow.Author.Needs.{needs}
-use Rattle.exports.proofs.sessions.musselrung_session_misses.Statement.{statement}
-use Rattle.exports.proofs.sessions.musselrung_session_misses.Tie as tie
+use Rattle.exports.proofs.session_reads.musselrung_session_misses.Statement.{statement}
+use Rattle.exports.proofs.session_reads.musselrung_session_misses.Tie as tie
 
 misses-requires : tie.Need-misses-requires
 misses-requires c κs = search needs

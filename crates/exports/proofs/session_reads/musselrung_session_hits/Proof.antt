@@ -1,8 +1,8 @@
--- `exports::sessions::musselrung_session_hits`: what `session::hits` promises, told in numbers.
+-- `exports::session_reads::musselrung_session_hits`: what `session::hits` promises, told in numbers.
 use mathlib.Core.Path.{_∙_}
 use borrow.Author.Needs.{needs}
-use Rattle.exports.proofs.sessions.musselrung_session_hits.Statement.{statement}
-use Rattle.exports.proofs.sessions.musselrung_session_hits.Tie as tie
+use Rattle.exports.proofs.session_reads.musselrung_session_hits.Statement.{statement}
+use Rattle.exports.proofs.session_reads.musselrung_session_hits.Tie as tie
 
 hits-requires : tie.Need-hits-requires
 hits-requires c κs = search needs

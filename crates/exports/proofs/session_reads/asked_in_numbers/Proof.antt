@@ -1,7 +1,7 @@
--- `exports::sessions::asked_in_numbers`: the arm that is taken knows what was answered, and its numbers compute.
+-- `exports::session_reads::asked_in_numbers`: the arm that is taken knows what was answered, and its numbers compute.
 use borrow.Author.Needs.{needs}
-use Rattle.exports.proofs.sessions.asked_in_numbers.Statement.{statement}
-use Rattle.exports.proofs.sessions.asked_in_numbers.Tie as tie
+use Rattle.exports.proofs.session_reads.asked_in_numbers.Statement.{statement}
+use Rattle.exports.proofs.session_reads.asked_in_numbers.Tie as tie
 
 enum-known-asked : tie.Need-enum-known-asked
 enum-known-asked c = search needs
