@@ -24,11 +24,11 @@ use scan::section;
 ghost use Rattle.rules.specs.Limits.{capacities as capacityLimit, references as referenceLimit};
 ghost use Rattle.file_theory.specs.Decoding.{pagesOf, referencesIn, traceBehind, traceIn};
 ghost use Rattle.file_theory.specs.Promises.{PartRead, FileRead};
-ghost use Rattle.file_theory.specs.Sections.{Found};
+ghost use Rattle.file_theory.specs.Sections.{WholeSection};
 
 // The n references of a section that was found whole, with nothing behind it and no bad page among them.
 fn take_references(part: &[u8], n: usize, table: &mut [u16; REFERENCES]) -> Part
-    requires { ⌜ Found referenceLimit (now part) n ⌝ }
+    requires { ⌜ WholeSection referenceLimit (now part) n ⌝ }
     ensures { λ r. ⌜ PartRead (pagesOf (now (part .entry)) n) (now (table .entry)) r (now (table .exit)) ⌝ }
 {
     let left = bytes_left(part, n);
@@ -70,7 +70,7 @@ fn take_capacities(
     capacities: &mut [u16; CAPACITIES],
     references: &mut [u16; REFERENCES],
 ) -> Reading
-    requires { ⌜ Found capacityLimit (now file) n ⌝ }
+    requires { ⌜ WholeSection capacityLimit (now file) n ⌝ }
     ensures { λ r. ⌜ FileRead (traceBehind (now (file .entry)) n) (now (capacities .entry)) (now (references .entry)) r (now (capacities .exit)) (now (references .exit)) ⌝ }
 {
     if !rising(file, n) {

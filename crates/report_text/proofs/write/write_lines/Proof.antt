@@ -1,4 +1,4 @@
--- `write::put_lines`: after i turns the lines of the first i capacities are put.
+-- `write::write_lines`: after i turns the lines of the first i capacities are put.
 use Prim.Native.Nat.{_*_, _≤_, _-_}
 use mathlib.Core.Path.{_≡_, refl, _∙_}
 use native.Mathlib.Numerals.{add-one}
@@ -9,8 +9,8 @@ use lib.Seq.{take-length}
 use Rattle.report_theory.specs.Buffer.{Wrote, then}
 use Rattle.report_theory.specs.Pieces.{longestLine}
 use Rattle.report_theory.specs.Lines.{tableLines, no-lines, lines-more, lines-room}
-use Rattle.report_text.proofs.write.put_lines.Statement.{statement}
-use Rattle.report_text.proofs.write.put_lines.Tie as tie
+use Rattle.report_text.proofs.write.write_lines.Statement.{statement}
+use Rattle.report_text.proofs.write.write_lines.Tie as tie
 
 abbrev Inv-loop : tie.InvT-loop
 Inv-loop out₀ at capacities lru lfu opt i₀ place₀ out i place = (i ≤ length capacities) × Wrote at (tableLines lru lfu opt (take i capacities)) out₀ place out × (length out ≡ length out₀)
@@ -38,14 +38,14 @@ loop-holds c =
     let a = c .before .before .before .before .before .args in
     (omega arith, no-lines (a .lru .now) (a .lfu .now) (a .opt .now) (a .at) (a .out .now), refl)
 
-mul-put-capacity : tie.Need-mul-put-capacity Inv-loop μ-loop
-mul-put-capacity c = search needs
+mul-write-capacity : tie.Need-mul-write-capacity Inv-loop μ-loop
+mul-write-capacity c = search needs
 
-shared-slice-read-put-capacity : tie.Need-shared-slice-read-put-capacity Inv-loop μ-loop
-shared-slice-read-put-capacity c = omega arith
+shared-slice-read-write-capacity : tie.Need-shared-slice-read-write-capacity Inv-loop μ-loop
+shared-slice-read-write-capacity c = omega arith
 
-put-capacity-requires : tie.Need-put-capacity-requires Inv-loop μ-loop
-put-capacity-requires c κs =
+write-capacity-requires : tie.Need-write-capacity-requires Inv-loop μ-loop
+write-capacity-requires c κs =
     let at-loop = c .before .before .before in
     omega (arith, room-now at-loop, at-loop .loop .inv .1 .place)
 
@@ -62,8 +62,8 @@ loop-again c =
     let i = at-loop .loop .i in
     let more = lines-more (a .lru .now) (a .lfu .now) (a .opt .now) (a .capacities .now) i (omega arith) in (
       omega arith,
-      rw (add-one i, more) (then (omega (arith, room-now at-loop)) (at-loop .loop .inv .1) (c .before .before .put-capacity .ensures)),
-      c .before .before .put-capacity .kept .0 ∙ at-loop .loop .inv .2,
+      rw (add-one i, more) (then (omega (arith, room-now at-loop)) (at-loop .loop .inv .1) (c .before .before .write-capacity .ensures)),
+      c .before .before .write-capacity .kept .0 ∙ at-loop .loop .inv .2,
     )
 
 same-length : tie.Need-same-length Inv-loop μ-loop
@@ -75,16 +75,16 @@ returns c =
     let all : c .before .loop .i ≡ length (a .capacities .now) = omega arith in
     rw (all, take-length (a .capacities .now)) at (c .before .loop .inv .1)
 
-pub put-lines-spec : {M : Type 1} → statement M
-put-lines-spec =
+pub write-lines-spec : {M : Type 1} → statement M
+write-lines-spec =
     tie.close
     (tie.spec
     Inv-loop
     μ-loop
     loop-holds
-    mul-put-capacity
-    shared-slice-read-put-capacity
-    put-capacity-requires
+    mul-write-capacity
+    shared-slice-read-write-capacity
+    write-capacity-requires
     add-i
     loop-less
     loop-again

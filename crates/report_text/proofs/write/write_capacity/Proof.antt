@@ -1,9 +1,9 @@
--- `write::put_capacity`: a line of numbers below 2 ^ 32 fits the longest line.
+-- `write::write_capacity`: a line of numbers below 2 ^ 32 fits the longest line.
 use native.Mathlib.Omega.{arith}
 use Rattle.report_theory.specs.Pieces.{line-short}
 use borrow.Author.Needs.{needs}
-use Rattle.report_text.proofs.write.put_capacity.Statement.{statement}
-use Rattle.report_text.proofs.write.put_capacity.Tie as tie
+use Rattle.report_text.proofs.write.write_capacity.Statement.{statement}
+use Rattle.report_text.proofs.write.write_capacity.Tie as tie
 
 hits-at-requires : tie.Need-hits-at-requires
 hits-at-requires c κs = search needs
@@ -14,8 +14,8 @@ hits-at-requires-2 c κs = search needs
 hits-at-requires-3 : tie.Need-hits-at-requires-3
 hits-at-requires-3 c κs = search needs
 
-put-line-requires : tie.Need-put-line-requires
-put-line-requires c κs =
+write-line-requires : tie.Need-write-line-requires
+write-line-requires c κs =
     let a = c .before .before .before .before .before .before .before .before .args in
     omega (
       arith,
@@ -30,15 +30,15 @@ returns : tie.Need-returns
 returns c =
     let called = c .before .before in
     rw (← called .before .before .hits-at3 .ensures, ← called .before .before .before .hits-at2 .ensures, ← called .before .before .before .before .hits-at .ensures)
-    (called .put-line .ensures)
+    (called .write-line .ensures)
 
-pub put-capacity-spec : {M : Type 1} → statement M
-put-capacity-spec =
+pub write-capacity-spec : {M : Type 1} → statement M
+write-capacity-spec =
     tie.close
     (tie.spec
     hits-at-requires
     hits-at-requires-2
     hits-at-requires-3
-    put-line-requires
+    write-line-requires
     same-length
     returns)
