@@ -28,7 +28,8 @@ module _ (shown : List Page) (room : length shown ≡ capacities) where
   unfolding numbersOf
   numbers-next p i numbers h e =
       let one : capacities - i ≡ suc (capacities - suc i) = omega arith in
-      let long : length (map pageNumber (take i shown)) ≡ i = length-map (take i shown) pageNumber ∙ length-take-le i shown (omega arith) in
+      let long : length (map pageNumber (take i shown)) ≡ i =
+      length-map (take i shown) pageNumber ∙ length-take-le i shown (omega arith) in
       let here : ℕ = pageNumber (getD shown i p) in
       rw (
         e,
@@ -40,7 +41,8 @@ module _ (shown : List Page) (room : length shown ≡ capacities) where
         append-assoc (map pageNumber (take i shown)) (here ∷ []) (replicate (capacities - suc i) 0),
       )
 
-  pub numbers-end : (i : ℕ) (numbers : List ℕ) → capacities ≤ i → i ≤ capacities → numbers ≡ numbersOf shown i → numbers ≡ map pageNumber shown
+  pub numbers-end : (i : ℕ) (numbers : List ℕ) → capacities ≤ i → i ≤ capacities → numbers ≡ numbersOf shown i
+      → numbers ≡ map pageNumber shown
   unfolding numbersOf
   numbers-end i numbers low high e =
       let none : capacities - i ≡ 0 = omega arith in

@@ -47,12 +47,12 @@ pub start-asks : {policy k : ℕ} {before after : Lent} {told : Told} → StartT
 start-asks {policy} {k} p zero =
     let accepted = not-refused policy k (sym (ap (λ (t : Told). t .number) (p .answer)) ∙ zero) in
     let left : _ ≡ startLent policy k = p .memory ∙ rw accepted in
-    rw left
-    (alive-asks
-    (record { policy = policy; k = k; calls = []; gives = start-gives {places = []} {depths = []} {counts = []} (start-begun accepted) accepted }))
+    let gives = start-gives {places = []} {depths = []} {counts = []} (start-begun accepted) accepted in
+    rw left (alive-asks (record { policy = policy; k = k; calls = []; gives = gives }))
 
 -- whether the reference is accepted or refused
-pub refer-asks : {before after : Lent} {page : ℕ} {told : ToldNumber} → SessionAsks before → ReferTold before page after told → SessionAsks after
+pub refer-asks : {before after : Lent} {page : ℕ} {told : ToldNumber} → SessionAsks before → ReferTold before page after told
+    → SessionAsks after
 refer-asks {page = page} asks p =
     let a = asks .refer in
     alive-asks

@@ -50,4 +50,5 @@ module _ (policy k length references : Changed ℕ) (places depths counts : Chan
       sessionNow (policy .entry) (k .entry) (length .entry) (references .entry) (places .entry) (depths .entry) (counts .entry)
 
   abbrev pub sessionAtExit : Lent
-  sessionAtExit = sessionNow (policy .exit) (k .exit) (length .exit) (references .exit) (places .exit) (depths .exit) (counts .exit)
+  sessionAtExit =
+      sessionNow (policy .exit) (k .exit) (length .exit) (references .exit) (places .exit) (depths .exit) (counts .exit)

@@ -30,13 +30,15 @@ record Left (a : Answer) (before : Lent) (places depths counts : List ℕ) : Typ
 module _ (wanted limit : ℕ) (before : Lent) {places depths counts : List ℕ} where
   begun-by : (a : Answer) (b : Session) → started.Begun b ≡ startedAs a (fresh wanted limit) → Left a before places depths counts
       → (a ≡ Accepted)
-      × (lent (b .policy) (b .k) (b .length) (b .references) places depths counts ≡ whenAccepted a (startLent wanted limit) before)
+      × (lent (b .policy) (b .k) (b .length) (b .references) places depths counts
+      ≡ whenAccepted a (startLent wanted limit) before)
   begun-by Accepted b e left =
       let same : b ≡ fresh wanted limit = cc in
       (refl, rw (same, left .places-are, left .depths-are, left .counts-are))
   begun-by (Refused x) b e left = absurd (let z : _≡_ {A = ℕ} 0 1 = cc in let w : ⊥ = omega arith in w)
 
-  refused-by : (a : Answer) (x : Refusal) → started.Refused x ≡ startedAs a (fresh wanted limit) → Left a before places depths counts
+  refused-by : (a : Answer) (x : Refusal) → started.Refused x ≡ startedAs a (fresh wanted limit)
+      → Left a before places depths counts
       → (a ≡ Refused x)
       × (record { value = before .value; places = places; depths = depths; counts = counts }
       ≡ whenAccepted a (startLent wanted limit) before)

@@ -1,4 +1,5 @@
-// Sessions for callers in C and Rust: a session stands in memory that the caller lends, and only a start and a reference write it.
+// Sessions for callers in C and Rust: a session stands in memory that the caller lends, and only a start and a reference
+// write it.
 ghost use mathlib.Core.Path.{_≡_};
 ghost use Rattle.exports.specs.Lent.{sessionNow, sessionAtEntry, sessionAtExit};
 ghost use Rattle.exports.specs.Session.{Lives, toldDepth, StartTold, ReferTold};

@@ -71,7 +71,9 @@ fn take_capacities(
     references: &mut [u16; REFERENCES],
 ) -> Reading
     requires { ⌜ WholeSection capacityLimit (now file) n ⌝ }
-    ensures { λ r. ⌜ FileRead (traceBehind (now (file .entry)) n) (now (capacities .entry)) (now (references .entry)) r (now (capacities .exit)) (now (references .exit)) ⌝ }
+    ensures { λ r. ⌜ FileRead (traceBehind (now (file .entry)) n)
+        (now (capacities .entry)) (now (references .entry)) r
+        (now (capacities .exit)) (now (references .exit)) ⌝ }
 {
     if !rising(file, n) {
         return Reading::Refused(Refusal {
@@ -100,7 +102,9 @@ pub fn read(
     capacities: &mut [u16; CAPACITIES],
     references: &mut [u16; REFERENCES],
 ) -> Reading
-    ensures { λ r. ⌜ FileRead (traceIn (now (file .entry))) (now (capacities .entry)) (now (references .entry)) r (now (capacities .exit)) (now (references .exit)) ⌝ }
+    ensures { λ r. ⌜ FileRead (traceIn (now (file .entry)))
+        (now (capacities .entry)) (now (references .entry)) r
+        (now (capacities .exit)) (now (references .exit)) ⌝ }
 {
     let found = section(file, CAPACITIES);
     match found {

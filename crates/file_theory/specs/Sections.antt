@@ -41,7 +41,8 @@ whole-section limit bytes n =
     counted : Values (numberAt bytes 0) ≡ Values n → numberAt bytes 0 ≡ n
     counted e = cc
 
-    made : numberAt bytes 0 ≡ n → numberAt bytes 0 ≤ limit → sectionSize (numberAt bytes 0) ≤ length bytes → WholeSection limit bytes n
+    made : numberAt bytes 0 ≡ n → numberAt bytes 0 ≤ limit → sectionSize (numberAt bytes 0) ≤ length bytes
+        → WholeSection limit bytes n
     made e w l = record { count = e; within = omega arith; whole = omega arith }
 
 -- the section of some values, before any rest, is found whole
@@ -54,7 +55,8 @@ module _ (values rest : List ℕ) where
   unfolding bytesOf
   whole-length = simp length-append (omega (arith, length-bytesOf values))
 
-  pub section-encoded : (limit : ℕ) → length values ≤ limit → section limit (encodeSection values ++ rest) ≡ Values (length values)
+  pub section-encoded : (limit : ℕ) → length values ≤ limit
+      → section limit (encodeSection values ++ rest) ≡ Values (length values)
   section-encoded limit h =
       rw (
         whole-count,
@@ -81,7 +83,8 @@ unfolding numbers
 section-again limit bytes n all f =
     let whole : 2 * suc n ≤ length bytes = omega arith in
     let e : 2 * suc n ≡ sectionSize n = omega arith in
-    ap {B = List ℕ} (λ k. bytesOf (k ∷ sectionValues n bytes) ++ behindSection n bytes) (length-numbers n (drop 2 bytes) ∙ sym (f .count))
+    ap {B = List ℕ} (λ k. bytesOf (k ∷ sectionValues n bytes) ++ behindSection n bytes)
+    (length-numbers n (drop 2 bytes) ∙ sym (f .count))
     ∙ ap {B = List ℕ} (λ t. t ++ behindSection n bytes) (bytesOf-numbers (suc n) bytes all whole)
     ∙ ap {B = List ℕ} (λ k. take k bytes ++ behindSection n bytes) e
     ∙ take-append-drop (sectionSize n) bytes

@@ -53,7 +53,11 @@ fn write_report(
     opt: &[u32],
 ) -> usize
     requires { ⌜ (length (now capacities) ≤ capacityLimit) × (references ≤ referenceLimit) ⌝ }
-    ensures { λ r. ⌜ Wrote 0 (heading ++ tableLines (now (lru .entry)) (now (lfu .entry)) (now (opt .entry)) (now (capacities .entry)) ++ ending references) (now (out .entry)) r (now (out .exit)) ⌝ }
+    ensures { λ r. ⌜ Wrote 0
+        (heading
+        ++ tableLines (now (lru .entry)) (now (lfu .entry)) (now (opt .entry)) (now (capacities .entry))
+        ++ ending references)
+        (now (out .entry)) r (now (out .exit)) ⌝ }
 {
     let first = write_text(out, 0, b"capacity lru lfu opt\n");
     let lines = write_lines(out, first, capacities, lru, lfu, opt);
@@ -64,7 +68,9 @@ fn write_report(
 // The report of an accepted file: each policy is counted once, for every capacity at a time.
 fn write_counted(out: &mut [u8; REPORT], capacities: &[u16], references: &[u16]) -> usize
     requires { ⌜ GoodTrace (record { caps = now capacities; refs = now references }) ⌝ }
-    ensures { λ r. ⌜ Wrote 0 (reportFor (says (record { caps = now (capacities .entry); refs = now (references .entry) }))) (now (out .entry)) r (now (out .exit)) ⌝ }
+    ensures { λ r. ⌜ Wrote 0
+        (reportFor (says (record { caps = now (capacities .entry); refs = now (references .entry) })))
+        (now (out .entry)) r (now (out .exit)) ⌝ }
 {
     let mut lru = [0u32; CAPACITIES];
     let mut lfu = [0u32; CAPACITIES];
@@ -83,7 +89,9 @@ fn write_accepted(
     counts: Counts,
 ) -> usize
     requires { ⌜ Handed (now capacities) (now references) counts ⌝ }
-    ensures { λ r. ⌜ Wrote 0 (reportFor (says (inFront (now (capacities .entry)) (now (references .entry)) counts))) (now (out .entry)) r (now (out .exit)) ⌝ }
+    ensures { λ r. ⌜ Wrote 0
+        (reportFor (says (inFront (now (capacities .entry)) (now (references .entry)) counts)))
+        (now (out .entry)) r (now (out .exit)) ⌝ }
 {
     let n = counts.capacities;
     let m = counts.references;

@@ -8,7 +8,7 @@ ghost use Rattle.report_theory.specs.Text.{decimal};
 ghost use Rattle.report_theory.specs.Report.{line};
 ghost use Rattle.report_theory.specs.Buffer.{Wrote};
 ghost use Rattle.report_theory.specs.Pieces.{numberThen, longestLine};
-ghost use Rattle.report_theory.specs.Lines.{hitsIn, tableLines};
+ghost use Rattle.report_theory.specs.Lines.{hitsIn, tableLine, tableLines};
 
 // No line is longer: four numbers of ten digits, three spaces and a newline.
 pub const LINE: usize = 44;
@@ -88,7 +88,9 @@ fn write_capacity(
     opt: &[u32],
 ) -> usize
     requires { ⌜ at + longestLine ≤ length (now out) ⌝ }
-    ensures { λ r. ⌜ Wrote at (line capacity (hitsIn (now (lru .entry)) capacity) (hitsIn (now (lfu .entry)) capacity) (hitsIn (now (opt .entry)) capacity)) (now (out .entry)) r (now (out .exit)) ⌝ }
+    ensures { λ r. ⌜ Wrote at
+        (tableLine (now (lru .entry)) (now (lfu .entry)) (now (opt .entry)) capacity)
+        (now (out .entry)) r (now (out .exit)) ⌝ }
 {
     let c = capacity as usize;
     let in_lru = hits_at(lru, c);
@@ -107,7 +109,9 @@ pub(crate) fn write_lines(
     opt: &[u32],
 ) -> usize
     requires { ⌜ at + longestLine * length (now capacities) ≤ length (now out) ⌝ }
-    ensures { λ r. ⌜ Wrote at (tableLines (now (lru .entry)) (now (lfu .entry)) (now (opt .entry)) (now (capacities .entry))) (now (out .entry)) r (now (out .exit)) ⌝ }
+    ensures { λ r. ⌜ Wrote at
+        (tableLines (now (lru .entry)) (now (lfu .entry)) (now (opt .entry)) (now (capacities .entry)))
+        (now (out .entry)) r (now (out .exit)) ⌝ }
 {
     let mut i = 0;
     let mut place = at;

@@ -17,7 +17,8 @@ pub record Wrote (at : ℕ) (text before : List ℕ) (next : ℕ) (after : List 
   pub place : next ≡ at + length text
   pub buffer : after ≡ written at text before
 
-pub length-written : (at : ℕ) (text buffer : List ℕ) → at + length text ≤ length buffer → length (written at text buffer) ≡ length buffer
+pub length-written : (at : ℕ) (text buffer : List ℕ) → at + length text ≤ length buffer
+    → length (written at text buffer) ≡ length buffer
 unfolding written
 length-written at text buffer fits =
     let t : length (take at buffer) ≡ at = length-take-le at buffer (omega arith) in
@@ -38,17 +39,20 @@ unfolding written
 written-byte at b buffer h = rw (add-one at) (set-split buffer at b h)
 
 -- one text after the other
-pub written-twice : (at : ℕ) (s t buffer : List ℕ) → at + length s ≤ length buffer → written (at + length s) t (written at s buffer) ≡ written at (s ++ t) buffer
+pub written-twice : (at : ℕ) (s t buffer : List ℕ) → at + length s ≤ length buffer
+    → written (at + length s) t (written at s buffer) ≡ written at (s ++ t) buffer
 unfolding written
 written-twice at s t buffer fits =
-    let front : length (take at buffer ++ s) ≡ at + length s = simp length-append (omega (arith, length-take-le at buffer (omega arith))) in
-    let cut : take at buffer ++ (s ++ drop (at + length s) buffer) ≡ (take at buffer ++ s) ++ drop (at + length s) buffer = sym (append-assoc (take at buffer) s (drop (at + length s) buffer)) in
-    let first : take (at + length s) ((take at buffer ++ s) ++ drop (at + length s) buffer) ≡ take at buffer ++ s = take-at (take at buffer ++ s) (drop (at + length s) buffer) (at + length s) front in
-    let behind : drop ((at + length s) + length t) ((take at buffer ++ s) ++ drop (at + length s) buffer) ≡ drop (length t) (drop (at + length s) buffer) =
-    sym (drop-drop (length t) (at + length s) ((take at buffer ++ s) ++ drop (at + length s) buffer))
-    ∙ ap (drop (length t)) (drop-at (take at buffer ++ s) (drop (at + length s) buffer) (at + length s) front) in
-    let e : (at + length s) + length t ≡ at + length (s ++ t) = omega (arith, length-append s t) in
-    rw (cut, first, behind, drop-drop (length t) (at + length s) buffer, e)
+    let next = at + length s in
+    let begun = take at buffer ++ s in
+    let rest = drop next buffer in
+    let front : length begun ≡ next = simp length-append (omega (arith, length-take-le at buffer (omega arith))) in
+    let cut : take at buffer ++ (s ++ rest) ≡ begun ++ rest = sym (append-assoc (take at buffer) s rest) in
+    let first : take next (begun ++ rest) ≡ begun = take-at begun rest next front in
+    let behind : drop (next + length t) (begun ++ rest) ≡ drop (length t) rest =
+    sym (drop-drop (length t) next (begun ++ rest)) ∙ ap (drop (length t)) (drop-at begun rest next front) in
+    let e : next + length t ≡ at + length (s ++ t) = omega (arith, length-append s t) in
+    rw (cut, first, behind, drop-drop (length t) next buffer, e)
     (append-assoc (take at buffer) s (t ++ drop (at + length (s ++ t)) buffer)
     ∙ ap {B = List ℕ} (λ u. take at buffer ++ u) (sym (append-assoc s t (drop (at + length (s ++ t)) buffer))))
 
@@ -60,7 +64,8 @@ written-more at text buffer i h fits =
     let room : at + length (take i text) ≤ length buffer = omega arith in
     let e : at + length (take i text) ≡ at + i = omega arith in
     rw (add-one i, take-suc text i 0 h, ← e)
-    (written-byte (at + length (take i text)) (getD text i 0) (written at (take i text) buffer) (omega (arith, length-written at (take i text) buffer room))
+    (written-byte (at + length (take i text)) (getD text i 0) (written at (take i text) buffer)
+    (omega (arith, length-written at (take i text) buffer room))
     ∙ written-twice at (take i text) (getD text i 0 ∷ []) buffer room)
 
 -- the same for two calls
@@ -71,10 +76,12 @@ then {at} {s = s} {t = t} {before = before} fits a b = record {
   buffer = b .buffer ∙ rw (a .buffer, a .place) (written-twice at s t before fits);
 }
 
-pub kept-length : {at next : ℕ} {s before after : List ℕ} → at + length s ≤ length before → Wrote at s before next after → length after ≡ length before
+pub kept-length : {at next : ℕ} {s before after : List ℕ} → at + length s ≤ length before → Wrote at s before next after
+    → length after ≡ length before
 kept-length {at} {s = s} {before = before} fits w = rw (w .buffer) (length-written at s before fits)
 
--- what a function that writes text from a buffer's front promises: how many bytes, the whole buffer after, and that the bytes are within it
+-- what a function that writes text from a buffer's front promises: how many bytes, the whole buffer after, and that the bytes
+-- are within it
 pub record Printed (text before : List ℕ) (count : ℕ) (after : List ℕ) : Type 0 where
   pub counted : count ≡ length text
   pub buffer : after ≡ text ++ drop (length text) before
@@ -84,7 +91,8 @@ pub record Printed (text before : List ℕ) (count : ℕ) (after : List ℕ) : T
 pub printed : {text before after : List ℕ} {count : ℕ} → Wrote 0 text before count after → Printed text before count after
 printed {text} {before} {after} {count} w =
     let all : after ≡ text ++ drop (length text) before = w .buffer ∙ written-front text before in
-    let size : length after ≡ length text + length (drop (length text) before) = ap length all ∙ length-append text (drop (length text) before) in
+    let size : length after ≡ length text + length (drop (length text) before) =
+    ap length all ∙ length-append text (drop (length text) before) in
     let n : count ≡ length text = w .place ∙ zero-add (length text) in
     let fits : count ≤ length after = omega arith in
     record { counted = n; buffer = all; within = fits; part = sym (length-take-le count after fits) }

@@ -34,7 +34,8 @@ input-printed {buffer} {n = n} room p =
     }
 
 -- two answers that both meet the promise are equal, and so are the buffers they leave
-pub input-printed-once : {buffer before x y : List ℕ} {n a b : ℕ} → InputPrinted buffer n before a x → InputPrinted buffer n before b y
+pub input-printed-once : {buffer before x y : List ℕ} {n a b : ℕ} → InputPrinted buffer n before a x
+    → InputPrinted buffer n before b y
     → (a ≡ b) × (x ≡ y)
 input-printed-once {buffer} {n = n} p q =
     let came = came-itself n buffer (p .room) in

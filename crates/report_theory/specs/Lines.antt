@@ -48,20 +48,23 @@ fits-take (suc i) (x ∷ table) all (suc j) = fits-take i table (λ k. all (suc 
 
 -- the lines of some capacities, read off the tables of the three policies
 module _ (a b c : List ℕ) where
+  abbrev pub tableLine : ℕ → List ℕ
+  tableLine k = line k (hitsIn a k) (hitsIn b k) (hitsIn c k)
+
   unfoldable pub tableLines : List ℕ → List ℕ
   tableLines [] = []
-  tableLines (k ∷ ks) = line k (hitsIn a k) (hitsIn b k) (hitsIn c k) ++ tableLines ks
+  tableLines (k ∷ ks) = tableLine k ++ tableLines ks
 
-  lines-snoc : (ks : List ℕ) (k : ℕ) → tableLines (ks ++ (k ∷ [])) ≡ tableLines ks ++ line k (hitsIn a k) (hitsIn b k) (hitsIn c k)
+  lines-snoc : (ks : List ℕ) (k : ℕ) → tableLines (ks ++ (k ∷ [])) ≡ tableLines ks ++ tableLine k
   unfolding tableLines
-  lines-snoc [] k = append-nil (line k (hitsIn a k) (hitsIn b k) (hitsIn c k))
+  lines-snoc [] k = append-nil (tableLine k)
   lines-snoc (j ∷ ks) k =
-      ap {B = List ℕ} (λ t. line j (hitsIn a j) (hitsIn b j) (hitsIn c j) ++ t) (lines-snoc ks k)
-      ∙ sym (append-assoc (line j (hitsIn a j) (hitsIn b j) (hitsIn c j)) (tableLines ks) (line k (hitsIn a k) (hitsIn b k) (hitsIn c k)))
+      ap {B = List ℕ} (λ t. tableLine j ++ t) (lines-snoc ks k)
+      ∙ sym (append-assoc (tableLine j) (tableLines ks) (tableLine k))
 
   -- one line more
   pub lines-more : (ks : List ℕ) (i : ℕ) → i < length ks
-      → tableLines (take (suc i) ks) ≡ tableLines (take i ks) ++ line (getD ks i 0) (hitsIn a (getD ks i 0)) (hitsIn b (getD ks i 0)) (hitsIn c (getD ks i 0))
+      → tableLines (take (suc i) ks) ≡ tableLines (take i ks) ++ tableLine (getD ks i 0)
   lines-more ks i h = rw (take-suc ks i 0 h) (lines-snoc (take i ks) (getD ks i 0))
 
   pub lines-short : Fits32 a → Fits32 b → Fits32 c → (ks : List ℕ) → Fits32 ks → length (tableLines ks) ≤ longestLine * length ks
@@ -69,14 +72,16 @@ module _ (a b c : List ℕ) where
   lines-short fa fb fc [] f = omega arith
   lines-short fa fb fc (k ∷ ks) f =
       let ih = lines-short fa fb fc ks (λ i. f (suc i)) in
-      simp length-append (omega (arith, ih, line-short k (hitsIn a k) (hitsIn b k) (hitsIn c k) (f 0) (hits-fits a fa k) (hits-fits b fb k) (hits-fits c fc k)))
+      let here = line-short k (hitsIn a k) (hitsIn b k) (hitsIn c k) (f 0) (hits-fits a fa k) (hits-fits b fb k) (hits-fits c fc k) in
+      simp length-append (omega (arith, ih, here))
 
   pub no-lines : (at : ℕ) (out : List ℕ) → Wrote at (tableLines []) out at out
   unfolding tableLines
   no-lines at out = record { place = sym (add-zero at); buffer = sym (written-nothing at out) }
 
   -- the lines so far leave room for one more
-  pub lines-room : Fits32 a → Fits32 b → Fits32 c → (ks : List ℕ) → Fits32 ks → (i : ℕ) → i ≤ length ks → length (tableLines (take i ks)) ≤ longestLine * i
+  pub lines-room : Fits32 a → Fits32 b → Fits32 c → (ks : List ℕ) → Fits32 ks → (i : ℕ) → i ≤ length ks
+      → length (tableLines (take i ks)) ≤ longestLine * i
   lines-room fa fb fc ks f i h =
       let l : length (take i ks) ≡ i = length-take-le i ks h in
       omega (arith, lines-short fa fb fc (take i ks) (fits-take i ks f))

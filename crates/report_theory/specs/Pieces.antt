@@ -17,7 +17,8 @@ pub line-numbers : (k a b c : ℕ) → line k a b c ≡ numberThen k 32 ++ numbe
 unfolding line
 line-numbers k a b c = simp append-assoc
 
-pub length-line : (k a b c : ℕ) → length (line k a b c) ≡ length (numberThen k 32) + length (numberThen a 32) + length (numberThen b 32) + length (numberThen c 10)
+pub length-line : (k a b c : ℕ)
+    → length (line k a b c) ≡ length (numberThen k 32) + length (numberThen a 32) + length (numberThen b 32) + length (numberThen c 10)
 length-line k a b c =
     ap length (line-numbers k a b c)
     ∙ omega (
@@ -36,8 +37,10 @@ unfolding refusedLine
 refused-numbers n = simp append-assoc
 
 -- the report of an accepted file, from the texts that it is put together from
-pub report-written : {first second third last : ℕ} {out out₁ out₂ out₃ out₄ : List ℕ} (body : List ℕ) (n : ℕ) → length heading + length body + 11 ≤ length out
-    → Wrote 0 heading out first out₁ → Wrote first body out₁ second out₂ → Wrote second (text "references ") out₂ third out₃ → Wrote third (numberThen n 10) out₃ last out₄
+pub report-written : {first second third last : ℕ} {out out₁ out₂ out₃ out₄ : List ℕ} (body : List ℕ) (n : ℕ)
+    → length heading + length body + 11 ≤ length out
+    → Wrote 0 heading out first out₁ → Wrote first body out₁ second out₂ → Wrote second (text "references ") out₂ third out₃
+    → Wrote third (numberThen n 10) out₃ last out₄
     → Wrote 0 (heading ++ body ++ ending n) out last out₄
 report-written body n room a b c d =
     rw (ending-numbers n, ← append-assoc (heading ++ body) (text "references ") (numberThen n 10))

@@ -1,5 +1,5 @@
--- Closed examples, as the definitions compute them, beside the rules' own words and numbers: the report that the rules print for trace
--- T and capacities 1, 3 and 4, and a file for each refusal.
+-- Closed examples, as the definitions compute them, beside the rules' own words and numbers: the report that the rules print
+-- for trace T and capacities 1, 3 and 4, and a file for each refusal.
 use Prim.Native.Nat.{ℕ}
 use mathlib.Core.Path.{_≡_, refl}
 use mathlib.Core.List.{List, [], _∷_}
@@ -30,7 +30,8 @@ unfolding report lines ending decimal decimalIn
     traceIn traceBehind referencesIn pagesOf pagesAnswer rising numbers bytesOf firstBadPage
 no-capacities = refl
 
--- an empty file ends inside its first count; 65 capacities; a capacity 0; 4,097 references; a byte behind the last section; page 1,024
+-- an empty file ends inside its first count; 65 capacities; a capacity 0; 4,097 references; a byte behind the last section;
+-- page 1,024
 pub refused-files :
     (report [] ≡ text "refused 8\n")
     × (report (65 ∷ 0 ∷ []) ≡ text "refused 9\n")

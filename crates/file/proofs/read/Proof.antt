@@ -30,13 +30,15 @@ returns : tie.Need-returns
 returns c =
     let sectioned = c .before .before in
     let a = sectioned .before .before .args in
-    file-cut (a .file .now) (a .capacities .now) (a .references .now) (sym (c .enum-told .given .1) ∙ sectioned .section .ensures)
+    file-cut (a .file .now) (a .capacities .now) (a .references .now)
+    (sym (c .enum-told .given .1) ∙ sectioned .section .ensures)
 
 returns-2 : tie.Need-returns-2
 returns-2 c =
     let sectioned = c .before .before in
     let a = sectioned .before .before .args in
-    file-over (a .file .now) (a .capacities .now) (a .references .now) (sym (c .enum-told2 .given .1) ∙ sectioned .section .ensures)
+    file-over (a .file .now) (a .capacities .now) (a .references .now)
+    (sym (c .enum-told2 .given .1) ∙ sectioned .section .ensures)
 
 returns-3 : tie.Need-returns-3
 returns-3 c =

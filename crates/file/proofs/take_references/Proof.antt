@@ -31,7 +31,8 @@ returns c =
     let left = looked .before in
     let a = left .before .before .args in
     let order =
-    in-order (a .part .now) (a .n) (checked .first-refusal .ensures) (left .bytes-left .ensures) (looked .first-bad-page .ensures) in
+    in-order (a .part .now) (a .n) (checked .first-refusal .ensures) (left .bytes-left .ensures)
+    (looked .first-bad-page .ensures) in
     pages-refused (a .part .now) (a .n) (a .table .now) _ (sym (c .before .found .given .1) ∙ order)
 
 returns-2 : tie.Need-returns-2
@@ -42,7 +43,8 @@ returns-2 c =
     let left = looked .before in
     let a = left .before .before .args in
     let order =
-    in-order (a .part .now) (a .n) (checked .first-refusal .ensures) (left .bytes-left .ensures) (looked .first-bad-page .ensures) in
+    in-order (a .part .now) (a .n) (checked .first-refusal .ensures) (left .bytes-left .ensures)
+    (looked .first-bad-page .ensures) in
     pages-taken (a .part .now) (a .n) (a .table .now) (c .copy-values .last .1 .1 .0)
     (sym (taken .enum-told .given .1) ∙ order)
     (c .copy-values .ensures)

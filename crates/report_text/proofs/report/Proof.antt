@@ -20,21 +20,27 @@ enum-known-reading-2 c = search needs
 
 write-accepted-requires : tie.Need-write-accepted-requires
 write-accepted-requires c κs =
-    let called = c .before .before .before .before .before .before in
-    accepted-handed (called .before .before .before .before .args .file .now) (called .read .ensures) _ (c .before .before .before .before .reading2 .given .1)
+    let taken = c .before .before .before .before in
+    let called = taken .before .before in
+    let start = called .before .before .before .before in
+    accepted-handed (start .args .file .now) (called .read .ensures) _ (taken .reading2 .given .1)
 
 returns : tie.Need-returns
 returns c =
-    let called = c .before .before .before .before .before in
-    let file = called .before .before .before .before .args .file .now in
-    let told = refused-says file (called .read .ensures) _ (c .before .before .before .reading .given .1) in
+    let taken = c .before .before .before in
+    let called = taken .before .before in
+    let start = called .before .before .before .before in
+    let file = start .args .file .now in
+    let told = refused-says file (called .read .ensures) _ (taken .reading .given .1) in
     rw (report-refused file _ told) (printed (c .write-refused .ensures))
 
 returns-2 : tie.Need-returns-2
 returns-2 c =
-    let called = c .before .before .before .before .before .before .before in
-    let file = called .before .before .before .before .args .file .now in
-    let told = accepted-says file (called .read .ensures) _ (c .before .before .before .before .before .reading2 .given .1) in
+    let taken = c .before .before .before .before .before in
+    let called = taken .before .before in
+    let start = called .before .before .before .before in
+    let file = start .args .file .now in
+    let told = accepted-says file (called .read .ensures) _ (taken .reading2 .given .1) in
     rw (report-accepted file _ told) (printed (c .write-accepted .ensures))
 
 pub report-spec : {M : Type 1} → statement M

@@ -1,4 +1,5 @@
--- `report_text::report_input`: what came is the front of the buffer, and the buffer has the length that says all of a longer input.
+-- `report_text::report_input`: what came is the front of the buffer, and the buffer has the length that says all of a longer
+-- input.
 use mathlib.Core.Path.{_≡_, sym}
 use Prim.Native.Nat.{suc}
 use native.Mathlib.Omega.{arith}

@@ -49,7 +49,8 @@ returns c =
     let t : Trace = record { caps = start .args .capacities .now; refs = start .args .references .now } in
     let good = start .pre .good in
     subst (λ (text : List ℕ). Wrote 0 text (start .args .out .now) (c .write-report .result) (c .write-report .last .0))
-    (counted-report t (one .count .last .1 .1 .1 .0) (two .count2 .last .1 .1 .1 .0) (three .count3 .last .1 .1 .1 .0) (start .pre)
+    (counted-report t (one .count .last .1 .1 .1 .0) (two .count2 .last .1 .1 .1 .0) (three .count3 .last .1 .1 .1 .0)
+    (start .pre)
     (count-holds (omega arith) refl good (one .count .ensures))
     (count-holds (omega arith) refl good (two .count2 .ensures))
     (count-holds (omega arith) refl good (three .count3 .ensures)))

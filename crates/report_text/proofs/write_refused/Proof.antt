@@ -17,14 +17,20 @@ cast-write-number c = search needs
 
 write-number-requires : tie.Need-write-number-requires
 write-number-requires c κs =
-    let a = c .before .before .before .before .args in
-    omega (arith, number-short (a .refusal .number) 10 (omega arith), c .before .write-text .ensures .place, c .before .write-text .kept .0)
+    let word = c .before in
+    let a = word .before .before .before .args in
+    omega (
+      arith,
+      number-short (a .refusal .number) 10 (omega arith),
+      word .write-text .ensures .place,
+      word .write-text .kept .0,
+    )
 
 returns : tie.Need-returns
 returns c =
-    let a = c .before .before .before .before .before .args in
-    rw (refused-numbers (a .refusal .number))
-    (then (omega arith) (c .before .before .write-text .ensures) (c .write-number .ensures))
+    let word = c .before .before in
+    let a = word .before .before .before .args in
+    rw (refused-numbers (a .refusal .number)) (then (omega arith) (word .write-text .ensures) (c .write-number .ensures))
 
 pub write-refused-spec : {M : Type 1} → statement M
 write-refused-spec =

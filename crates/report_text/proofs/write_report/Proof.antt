@@ -1,4 +1,5 @@
--- `report_text::write_report`: the first line, the lines of the capacities, a word and a number, one after the other; no line is longer than the longest.
+-- `report_text::write_report`: the first line, the lines of the capacities, a word and a number, one after the other; no line
+-- is longer than the longest.
 use Prim.Native.Nat.{_*_, _≤_}
 use native.Mathlib.Omega.{arith}
 use lib.ListN.{length}
@@ -10,10 +11,13 @@ use Rattle.report_text.proofs.write_report.Tie as tie
 
 -- the lines take at most the longest line each
 lines-bound : (c : tie.After-write-lines)
-    → (let a = c .before .before .before .before .before .before .before .before .before .args in length (tableLines (a .lru .now) (a .lfu .now) (a .opt .now) (a .capacities .now)) ≤ longestLine * length (a .capacities .now))
+    → (let start = c .before .before .before .before .before .before .before .before .before in
+    let a = start .args in
+    length (tableLines (a .lru .now) (a .lfu .now) (a .opt .now) (a .capacities .now)) ≤ longestLine * length (a .capacities .now))
 lines-bound c =
     let known = c .before .before .before .before .before in
-    let a = known .before .before .before .before .args in
+    let start = known .before .before .before .before in
+    let a = start .args in
     lines-short (a .lru .now) (a .lfu .now) (a .opt .now)
     (λ j. known .before .before .shared-slice-known2 .given j .fits)
     (λ j. known .before .shared-slice-known3 .given j .fits)
@@ -36,7 +40,15 @@ slice-aggregate-write-text-2 c = search needs
 write-text-requires-2 : tie.Need-write-text-requires-2
 write-text-requires-2 c κs =
     let wrote = c .before .before in
-    omega (arith, lines-bound wrote, wrote .write-lines .ensures .place, wrote .write-lines .kept .0, wrote .before .before .write-text .ensures .place, wrote .before .before .write-text .kept .0)
+    let first = wrote .before .before in
+    omega (
+      arith,
+      lines-bound wrote,
+      wrote .write-lines .ensures .place,
+      wrote .write-lines .kept .0,
+      first .write-text .ensures .place,
+      first .write-text .kept .0,
+    )
 
 cast-write-number : tie.Need-cast-write-number
 cast-write-number c = search needs
@@ -67,7 +79,10 @@ returns c =
     let a = start .args in
     report-written (tableLines (a .lru .now) (a .lfu .now) (a .opt .now) (a .capacities .now)) (a .references)
     (omega (arith, lines-bound wrote, start .pre))
-    (wrote .before .before .write-text .ensures) (wrote .write-lines .ensures) (text₂ .write-text2 .ensures) (c .write-number .ensures)
+    (wrote .before .before .write-text .ensures)
+    (wrote .write-lines .ensures)
+    (text₂ .write-text2 .ensures)
+    (c .write-number .ensures)
 
 pub write-report-spec : {M : Type 1} → statement M
 write-report-spec =

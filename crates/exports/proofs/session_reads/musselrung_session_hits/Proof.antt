@@ -12,7 +12,8 @@ asked-in-numbers-requires c κs = search needs
 
 returns : tie.Need-returns
 returns c =
-    record { hits-are = λ policy k calls v d. c .asked-in-numbers .ensures ∙ rw (c .before .hits .ensures .hits-are policy k calls v d) }
+    let read = c .before .hits .ensures in
+    record { hits-are = λ policy k calls v d. c .asked-in-numbers .ensures ∙ rw (read .hits-are policy k calls v d) }
 
 pub musselrung-session-hits-spec : {M : Type 1} → statement M
 musselrung-session-hits-spec = tie.close (tie.spec hits-requires asked-in-numbers-requires returns)

@@ -12,7 +12,8 @@ asked-in-numbers-requires c κs = search needs
 
 returns : tie.Need-returns
 returns c =
-    record { misses-are = λ policy k calls v d. c .asked-in-numbers .ensures ∙ rw (c .before .misses .ensures .misses-are policy k calls v d) }
+    let read = c .before .misses .ensures in
+    record { misses-are = λ policy k calls v d. c .asked-in-numbers .ensures ∙ rw (read .misses-are policy k calls v d) }
 
 pub musselrung-session-misses-spec : {M : Type 1} → statement M
 musselrung-session-misses-spec = tie.close (tie.spec misses-requires asked-in-numbers-requires returns)

@@ -40,7 +40,8 @@ loop-again c =
     let at-loop = c .before .before in
     let start = at-loop .before in
     let turn = at-loop .loop in (
-      numbers-next (start .args .t1) (start .good .0 .1 .0 .1) (record { 0 = 0 }) (turn .i) (turn .numbers) (omega arith) (turn .inv .0),
+      numbers-next (start .args .t1) (start .good .0 .1 .0 .1) (record { 0 = 0 }) (turn .i) (turn .numbers) (omega arith)
+          (turn .inv .0),
       omega arith,
     )
 

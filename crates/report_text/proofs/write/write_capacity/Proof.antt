@@ -16,12 +16,17 @@ hits-at-requires-3 c κs = search needs
 
 write-line-requires : tie.Need-write-line-requires
 write-line-requires c κs =
-    let a = c .before .before .before .before .before .before .before .before .args in
-    omega (
-      arith,
-      line-short (a .capacity) (c .before .before .before .hits-at .result) (c .before .before .hits-at2 .result) (c .before .hits-at3 .result)
-          (omega arith) (omega (arith, c .before .before .before .hits-at .ok)) (omega (arith, c .before .before .hits-at2 .ok)) (omega (arith, c .before .hits-at3 .ok)),
-    )
+    let in-opt = c .before in
+    let in-lfu = in-opt .before in
+    let in-lru = in-lfu .before in
+    let start = in-lru .before .before .before .before .before in
+    let short =
+    line-short (start .args .capacity) (in-lru .hits-at .result) (in-lfu .hits-at2 .result) (in-opt .hits-at3 .result)
+    (omega arith)
+    (omega (arith, in-lru .hits-at .ok))
+    (omega (arith, in-lfu .hits-at2 .ok))
+    (omega (arith, in-opt .hits-at3 .ok)) in
+    omega (arith, short)
 
 same-length : tie.Need-same-length
 same-length c = search needs
@@ -29,8 +34,9 @@ same-length c = search needs
 returns : tie.Need-returns
 returns c =
     let called = c .before .before in
-    rw (← called .before .before .hits-at3 .ensures, ← called .before .before .before .hits-at2 .ensures, ← called .before .before .before .before .hits-at .ensures)
-    (called .write-line .ensures)
+    let in-opt = called .before .before in
+    let in-lfu = in-opt .before in
+    rw (← in-opt .hits-at3 .ensures, ← in-lfu .hits-at2 .ensures, ← in-lfu .before .hits-at .ensures) (called .write-line .ensures)
 
 pub write-capacity-spec : {M : Type 1} → statement M
 write-capacity-spec =

@@ -17,7 +17,12 @@ write-number-requires-2 : tie.Need-write-number-requires-2
 write-number-requires-2 c κs =
     let one = c .before .before .before in
     let a = one .before .before .before .args in
-    omega (arith, length-line (a .capacity) (a .lru) (a .lfu) (a .opt), one .write-number .ensures .place, one .write-number .kept .0)
+    omega (
+      arith,
+      length-line (a .capacity) (a .lru) (a .lfu) (a .opt),
+      one .write-number .ensures .place,
+      one .write-number .kept .0,
+    )
 
 write-number-requires-3 : tie.Need-write-number-requires-3
 write-number-requires-3 c κs =

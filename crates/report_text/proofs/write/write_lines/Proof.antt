@@ -13,14 +13,19 @@ use Rattle.report_text.proofs.write.write_lines.Statement.{statement}
 use Rattle.report_text.proofs.write.write_lines.Tie as tie
 
 abbrev Inv-loop : tie.InvT-loop
-Inv-loop out₀ at capacities lru lfu opt i₀ place₀ out i place = (i ≤ length capacities) × Wrote at (tableLines lru lfu opt (take i capacities)) out₀ place out × (length out ≡ length out₀)
+Inv-loop out₀ at capacities lru lfu opt i₀ place₀ out i place =
+    (i ≤ length capacities)
+    × Wrote at (tableLines lru lfu opt (take i capacities)) out₀ place out
+    × (length out ≡ length out₀)
 
 abbrev μ-loop : tie.MeasureT-loop
 μ-loop out₀ at capacities lru lfu opt i₀ place₀ out i place = length capacities - i
 
 -- the lines that are put so far take at most the longest line each
 room-now : (c : tie.At-loop Inv-loop μ-loop)
-    → (let a = c .before .before .before .before .before .before .args in length (tableLines (a .lru .now) (a .lfu .now) (a .opt .now) (take (c .loop .i) (a .capacities .now))) ≤ longestLine * c .loop .i)
+    → (let start = c .before .before .before .before .before .before in
+    let a = start .args in
+    length (tableLines (a .lru .now) (a .lfu .now) (a .opt .now) (take (c .loop .i) (a .capacities .now))) ≤ longestLine * c .loop .i)
 room-now c =
     let known = c .before in
     let a = known .before .before .before .before .before .args in
@@ -62,7 +67,8 @@ loop-again c =
     let i = at-loop .loop .i in
     let more = lines-more (a .lru .now) (a .lfu .now) (a .opt .now) (a .capacities .now) i (omega arith) in (
       omega arith,
-      rw (add-one i, more) (then (omega (arith, room-now at-loop)) (at-loop .loop .inv .1) (c .before .before .write-capacity .ensures)),
+      rw (add-one i, more)
+          (then (omega (arith, room-now at-loop)) (at-loop .loop .inv .1) (c .before .before .write-capacity .ensures)),
       c .before .before .write-capacity .kept .0 ∙ at-loop .loop .inv .2,
     )
 

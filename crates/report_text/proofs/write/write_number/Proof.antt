@@ -17,16 +17,23 @@ write-byte-requires : tie.Need-write-byte-requires
 write-byte-requires c κs =
     let called = c .before .before .before in
     let a = called .before .before .before .args in
-    omega (arith, length-append (decimal (a .n)) (a .behind ∷ []), called .write-decimal .ensures .place, called .write-decimal .kept .0)
+    omega (
+      arith,
+      length-append (decimal (a .n)) (a .behind ∷ []),
+      called .write-decimal .ensures .place,
+      called .write-decimal .kept .0,
+    )
 
 same-length : tie.Need-same-length
 same-length c = search needs
 
 returns : tie.Need-returns
 returns c =
-    let called = c .before .before .before .before .before .before in
-    let a = called .before .before .before .args in
-    then (omega (arith, length-append (decimal (a .n)) (a .behind ∷ []))) (called .write-decimal .ensures) (c .before .before .write-byte .ensures)
+    let behind = c .before .before in
+    let digits = behind .before .before .before .before in
+    let a = digits .before .before .before .args in
+    then (omega (arith, length-append (decimal (a .n)) (a .behind ∷ []))) (digits .write-decimal .ensures)
+    (behind .write-byte .ensures)
 
 pub write-number-spec : {M : Type 1} → statement M
 write-number-spec = tie.close (tie.spec write-decimal-requires write-byte-requires same-length returns)
