@@ -13,16 +13,12 @@ use Rattle.rules.specs.Cases.{by-cases}
 use Rattle.rules.specs.Limits.{capacities, references}
 use Rattle.rules.specs.Refusals.{tooManyReferences, bytesLeft}
 use Rattle.file_theory.specs.declared.Section.the-variants.{Over, Values}
-use Rattle.file_theory.specs.Format.{numberAt, numbers, sectionSize, sectionValues, behindSection}
+use Rattle.file_theory.specs.Format.{numberAt, numbers, sectionSize, sectionValues, behindSection, longest, Came}
 use Rattle.file_theory.specs.Encoding.{bytesOf}
 use Rattle.file_theory.specs.Decoding.{says, refuses, unplaced, section}
 use Rattle.file_theory.specs.Decoding.{pagesAnswer, pagesOf, referencesIn, Trace, traceBehind, traceIn}
 use Rattle.file_theory.specs.Words.{Bytes, numberAt-drop, numbers-take, length-bytesOf}
 use Rattle.file_theory.specs.RoundTrip.{file-says}
-
--- F5: both sections full
-abbrev pub longest : ℕ
-longest = sectionSize capacities + sectionSize references
 
 -- F5: an accepted file is no longer
 pub accepted-short : (file : List ℕ) (t : Trace) → Bytes file → traceIn file ≡ says t → length file ≤ longest
@@ -106,10 +102,6 @@ module _ (file : List ℕ) (long : longest < length file) where
       (by-cases (ltb capacities (numberAt file 0))
       (λ over. rw over)
       (λ within. rw within (same-trace (numberAt file 0) (ltb-false capacities (numberAt file 0) within))))
-
--- F5: the first n bytes of a buffer are what came of an input: all of it, or one byte more than the longest file has
-abbrev pub Came : ℕ → List ℕ → List ℕ → Type 0
-Came n buffer input = take n buffer ≡ take (suc longest) input
 
 -- what came is read as the whole input is
 pub came-says : (n : ℕ) (buffer input : List ℕ) → Came n buffer input → traceIn (take n buffer) ≡ traceIn input

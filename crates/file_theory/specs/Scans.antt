@@ -56,7 +56,8 @@ module _ (n : ℕ) (bytes : List ℕ) (i p : ℕ) (more : i < n) (here : p ≡ n
   pub bad-page : pages ≤ p → firstBad i (drop i (sectionValues n bytes)) ≡ i
   bad-page bad = first-bad-at (sectionValues n bytes) i within (rw (value-at n bytes i more, ← here) bad)
 
-  pub good-page : p < pages → firstBad i (drop i (sectionValues n bytes)) ≡ firstBad (i + 1) (drop (i + 1) (sectionValues n bytes))
+  pub good-page : p < pages
+      → firstBad i (drop i (sectionValues n bytes)) ≡ firstBad (i + 1) (drop (i + 1) (sectionValues n bytes))
   good-page good = first-bad-next (sectionValues n bytes) i within (rw (value-at n bytes i more, ← here) good)
 
 -- the refusal of the first bad page, where one was found, and none where the scan came to the end

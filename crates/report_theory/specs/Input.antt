@@ -5,7 +5,8 @@ use mathlib.Core.List.{List}
 use native.Mathlib.Omega.{arith}
 use lib.ListN.{length, take, length-take}
 use lib.Seq.{take-all}
-use Rattle.file_theory.specs.Longest.{longest, Came, came-says}
+use Rattle.file_theory.specs.Format.{longest, Came}
+use Rattle.file_theory.specs.Longest.{came-says}
 use Rattle.report_theory.specs.Report.{report}
 use Rattle.report_theory.specs.Buffer.{Printed, printed-once}
 

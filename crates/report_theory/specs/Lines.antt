@@ -72,7 +72,8 @@ module _ (a b c : List ℕ) where
   lines-short fa fb fc [] f = omega arith
   lines-short fa fb fc (k ∷ ks) f =
       let ih = lines-short fa fb fc ks (λ i. f (suc i)) in
-      let here = line-short k (hitsIn a k) (hitsIn b k) (hitsIn c k) (f 0) (hits-fits a fa k) (hits-fits b fb k) (hits-fits c fc k) in
+      let here =
+      line-short k (hitsIn a k) (hitsIn b k) (hitsIn c k) (f 0) (hits-fits a fa k) (hits-fits b fb k) (hits-fits c fc k) in
       simp length-append (omega (arith, ih, here))
 
   pub no-lines : (at : ℕ) (out : List ℕ) → Wrote at (tableLines []) out at out

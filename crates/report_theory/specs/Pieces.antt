@@ -18,7 +18,8 @@ unfolding line
 line-numbers k a b c = simp append-assoc
 
 pub length-line : (k a b c : ℕ)
-    → length (line k a b c) ≡ length (numberThen k 32) + length (numberThen a 32) + length (numberThen b 32) + length (numberThen c 10)
+    → length (line k a b c)
+    ≡ length (numberThen k 32) + length (numberThen a 32) + length (numberThen b 32) + length (numberThen c 10)
 length-line k a b c =
     ap length (line-numbers k a b c)
     ∙ omega (

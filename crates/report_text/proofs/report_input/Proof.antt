@@ -6,7 +6,7 @@ use native.Mathlib.Omega.{arith}
 use borrow.Author.Needs.{needs}
 use lib.ListN.{length}
 use lib.Seq.{length-take-le, take-all}
-use Rattle.file_theory.specs.Longest.{longest}
+use Rattle.file_theory.specs.Format.{longest}
 use Rattle.report_theory.specs.Input.{input-printed}
 use Rattle.report_text.proofs.report_input.Statement.{statement}
 use Rattle.report_text.proofs.report_input.Tie as tie

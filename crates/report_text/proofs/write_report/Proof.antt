@@ -13,7 +13,8 @@ use Rattle.report_text.proofs.write_report.Tie as tie
 lines-bound : (c : tie.After-write-lines)
     → (let start = c .before .before .before .before .before .before .before .before .before in
     let a = start .args in
-    length (tableLines (a .lru .now) (a .lfu .now) (a .opt .now) (a .capacities .now)) ≤ longestLine * length (a .capacities .now))
+    length (tableLines (a .lru .now) (a .lfu .now) (a .opt .now) (a .capacities .now))
+    ≤ longestLine * length (a .capacities .now))
 lines-bound c =
     let known = c .before .before .before .before .before in
     let start = known .before .before .before .before in

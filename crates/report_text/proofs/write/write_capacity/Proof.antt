@@ -36,7 +36,8 @@ returns c =
     let called = c .before .before in
     let in-opt = called .before .before in
     let in-lfu = in-opt .before in
-    rw (← in-opt .hits-at3 .ensures, ← in-lfu .hits-at2 .ensures, ← in-lfu .before .hits-at .ensures) (called .write-line .ensures)
+    let in-lru = in-lfu .before in
+    rw (← in-opt .hits-at3 .ensures, ← in-lfu .hits-at2 .ensures, ← in-lru .hits-at .ensures) (called .write-line .ensures)
 
 pub write-capacity-spec : {M : Type 1} → statement M
 write-capacity-spec =

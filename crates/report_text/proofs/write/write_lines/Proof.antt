@@ -25,7 +25,8 @@ abbrev μ-loop : tie.MeasureT-loop
 room-now : (c : tie.At-loop Inv-loop μ-loop)
     → (let start = c .before .before .before .before .before .before in
     let a = start .args in
-    length (tableLines (a .lru .now) (a .lfu .now) (a .opt .now) (take (c .loop .i) (a .capacities .now))) ≤ longestLine * c .loop .i)
+    length (tableLines (a .lru .now) (a .lfu .now) (a .opt .now) (take (c .loop .i) (a .capacities .now)))
+    ≤ longestLine * c .loop .i)
 room-now c =
     let known = c .before in
     let a = known .before .before .before .before .before .args in
