@@ -6,145 +6,88 @@ use Rattle.report_theory.specs.Buffer.{then}
 use Prim.Native.Nat.{ℕ, _<_}
 use borrow.Fn.Kinds.{In}
 use borrow.Fn.PlainCycle.{Measures, is, falls, and}
-use Rattle.report_text.proofs.write.write_decimal.Reads as write-decimal
-use Rattle.report_text.proofs.write.write_decimal.Kinds as write-decimal-kinds
-use Rattle.report_text.proofs.write.+write_decimal.Lts-write_decimal as write-decimal-lts
-use Rattle.report_text.proofs.write.write_byte.Reads as write-byte-reads
+use Rattle.report_text.proofs.write.write_decimal.Reads as own
+use Rattle.report_text.proofs.write.write_decimal.Kinds.{ps}
+use Rattle.report_text.proofs.write.+write_decimal.Lts-write_decimal as lts
+use Rattle.report_text.proofs.write.write_byte.Reads as byte
 use Rattle.report_text.proofs.write.+write_decimal.{statement}
 use Rattle.report_text.proofs.write.+write_decimal.Tie.{close}
 
-abbrev μ-write-decimal : Measures 1 write-decimal-kinds.ps ℕ
-μ-write-decimal κs a = a .1 .1 .0
+-- the number to be written
+abbrev μ : Measures 1 ps ℕ
+μ κs a = a .1 .1 .0
 
-abbrev write-decimal-at : ℕ → In 1 write-decimal-kinds.ps
-write-decimal-at t =
-    and 1 write-decimal-kinds.ps (is 1 write-decimal-kinds.ps μ-write-decimal t) write-decimal.Pre
+-- what a call that writes t may ask: its own premise, and of the calls that it makes that they write less
+abbrev writes : ℕ → In 1 ps
+writes t = and 1 ps (is 1 ps μ t) own.Pre
 
-abbrev write-decimal-below : ℕ → In 1 write-decimal-kinds.ps
-write-decimal-below t =
-    and 1 write-decimal-kinds.ps (falls 1 write-decimal-kinds.ps _<_ μ-write-decimal t) write-decimal.Pre
+abbrev calls : ℕ → lts.Claims
+calls t = (byte.Asked, byte.Learnt, and 1 ps (falls 1 ps _<_ μ t) own.Pre, own.Post)
 
-write-decimal-cast-write-byte : (t : ℕ) → write-decimal-lts.Need-cast-write-byte (
-  write-byte-reads.Asked,
-  write-byte-reads.Learnt,
-  write-decimal-below t,
-  write-decimal.Post,
-) (write-decimal-at t) write-decimal.Post
-write-decimal-cast-write-byte t c = omega arith
+module _ (t : ℕ) where
+  cast-write-byte : lts.Need-cast-write-byte (calls t) (writes t) own.Post
+  cast-write-byte c = omega arith
 
-write-decimal-add-write-byte : (t : ℕ) → write-decimal-lts.Need-add-write-byte (
-  write-byte-reads.Asked,
-  write-byte-reads.Learnt,
-  write-decimal-below t,
-  write-decimal.Post,
-) (write-decimal-at t) write-decimal.Post
-write-decimal-add-write-byte t c = omega arith
+  add-write-byte : lts.Need-add-write-byte (calls t) (writes t) own.Post
+  add-write-byte c = omega arith
 
-write-decimal-write-byte-requires : (t : ℕ) → write-decimal-lts.Need-write-byte-requires (
-  write-byte-reads.Asked,
-  write-byte-reads.Learnt,
-  write-decimal-below t,
-  write-decimal.Post,
-) (write-decimal-at t) write-decimal.Post
-write-decimal-write-byte-requires t c κs =
-    let n = c .before .before .before .args .n in
-    omega (arith, length-digit n (omega arith))
+  write-byte-requires : lts.Need-write-byte-requires (calls t) (writes t) own.Post
+  write-byte-requires c κs =
+      let n = c .before .before .before .args .n in
+      omega (arith, length-digit n (omega arith))
 
-write-decimal-write-decimal-requires : (t : ℕ) → write-decimal-lts.Need-write-decimal-requires (
-  write-byte-reads.Asked,
-  write-byte-reads.Learnt,
-  write-decimal-below t,
-  write-decimal.Post,
-) (write-decimal-at t) write-decimal.Post
-write-decimal-write-decimal-requires t c κs =
-    let n = c .before .before .before .args .n in
-    omega (arith, length-more n (omega arith))
+  write-decimal-requires : lts.Need-write-decimal-requires (calls t) (writes t) own.Post
+  write-decimal-requires c κs =
+      let n = c .before .before .before .args .n in
+      omega (arith, length-more n (omega arith))
 
-write-decimal-cast-write-byte-2 : (t : ℕ) → write-decimal-lts.Need-cast-write-byte-2 (
-  write-byte-reads.Asked,
-  write-byte-reads.Learnt,
-  write-decimal-below t,
-  write-decimal.Post,
-) (write-decimal-at t) write-decimal.Post
-write-decimal-cast-write-byte-2 t c = omega arith
+  cast-write-byte-2 : lts.Need-cast-write-byte-2 (calls t) (writes t) own.Post
+  cast-write-byte-2 c = omega arith
 
-write-decimal-add-write-byte-2 : (t : ℕ) → write-decimal-lts.Need-add-write-byte-2 (
-  write-byte-reads.Asked,
-  write-byte-reads.Learnt,
-  write-decimal-below t,
-  write-decimal.Post,
-) (write-decimal-at t) write-decimal.Post
-write-decimal-add-write-byte-2 t c = omega arith
+  add-write-byte-2 : lts.Need-add-write-byte-2 (calls t) (writes t) own.Post
+  add-write-byte-2 c = omega arith
 
-write-decimal-write-byte-requires-2 : (t : ℕ) → write-decimal-lts.Need-write-byte-requires-2 (
-  write-byte-reads.Asked,
-  write-byte-reads.Learnt,
-  write-decimal-below t,
-  write-decimal.Post,
-) (write-decimal-at t) write-decimal.Post
-write-decimal-write-byte-requires-2 t c κs =
-    let called = c .before .before .before in
-    let a = called .before .before .before .before .args in
-    let longer = length-more (a .n) (omega arith) in
-    omega (arith, called .write-decimal .ensures .place, called .write-decimal .kept .0)
+  write-byte-requires-2 : lts.Need-write-byte-requires-2 (calls t) (writes t) own.Post
+  write-byte-requires-2 c κs =
+      let tenth = c .before .before .before in
+      let start = tenth .before .before .before .before in
+      let longer = length-more (start .args .n) (omega arith) in
+      omega (arith, tenth .write-decimal .ensures .place, tenth .write-decimal .kept .0)
 
-write-decimal-same-length : (t : ℕ) → write-decimal-lts.Need-same-length (
-  write-byte-reads.Asked,
-  write-byte-reads.Learnt,
-  write-decimal-below t,
-  write-decimal.Post,
-) (write-decimal-at t) write-decimal.Post
-write-decimal-same-length t c = c .before .before .write-byte .kept .0
+  same-length : lts.Need-same-length (calls t) (writes t) own.Post
+  same-length c = c .before .before .write-byte .kept .0
 
-write-decimal-returns : (t : ℕ) → write-decimal-lts.Need-returns (
-  write-byte-reads.Asked,
-  write-byte-reads.Learnt,
-  write-decimal-below t,
-  write-decimal.Post,
-) (write-decimal-at t) write-decimal.Post
-write-decimal-returns t c =
-    let n = c .before .before .before .before .before .before .args .n in
-    rw (decimal-digit n (omega arith)) (c .before .before .write-byte .ensures)
+  returns : lts.Need-returns (calls t) (writes t) own.Post
+  returns c =
+      let digit = c .before .before in
+      let start = digit .before .before .before .before in
+      rw (decimal-digit (start .args .n) (omega arith)) (digit .write-byte .ensures)
 
-write-decimal-same-length-2 : (t : ℕ) → write-decimal-lts.Need-same-length-2 (
-  write-byte-reads.Asked,
-  write-byte-reads.Learnt,
-  write-decimal-below t,
-  write-decimal.Post,
-) (write-decimal-at t) write-decimal.Post
-write-decimal-same-length-2 t c =
-    c .before .before .write-byte2 .kept .0 ∙ c .before .before .before .before .before .before .write-decimal .kept .0
+  same-length-2 : lts.Need-same-length-2 (calls t) (writes t) own.Post
+  same-length-2 c =
+      let digit = c .before .before in
+      let tenth = digit .before .before .before .before in
+      digit .write-byte2 .kept .0 ∙ tenth .write-decimal .kept .0
 
-write-decimal-returns-2 : (t : ℕ) → write-decimal-lts.Need-returns-2 (
-  write-byte-reads.Asked,
-  write-byte-reads.Learnt,
-  write-decimal-below t,
-  write-decimal.Post,
-) (write-decimal-at t) write-decimal.Post
-write-decimal-returns-2 t c =
-    let called = c .before .before .before .before .before .before in
-    let a = called .before .before .before .before .args in
-    let longer = length-more (a .n) (omega arith) in
-    rw (decimal-more (a .n) (omega arith))
-    (then (omega arith) (called .write-decimal .ensures) (c .before .before .write-byte2 .ensures))
+  returns-2 : lts.Need-returns-2 (calls t) (writes t) own.Post
+  returns-2 c =
+      let digit = c .before .before in
+      let tenth = digit .before .before .before .before in
+      let start = tenth .before .before .before .before in
+      let longer = length-more (start .args .n) (omega arith) in
+      rw (decimal-more (start .args .n) (omega arith))
+      (then (omega arith) (tenth .write-decimal .ensures) (digit .write-byte2 .ensures))
 
 pub +write-decimal-spec : {M : Type 1} → statement M
-+write-decimal-spec = close μ-write-decimal λ t. write-decimal-lts.spec (
-  write-byte-reads.Asked,
-  write-byte-reads.Learnt,
-  write-decimal-below t,
-  write-decimal.Post,
-)
-    (write-decimal-at t)
-    write-decimal.Post
-    (write-decimal-cast-write-byte t)
-    (write-decimal-add-write-byte t)
-    (write-decimal-write-byte-requires t)
-    (write-decimal-write-decimal-requires t)
-    (write-decimal-cast-write-byte-2 t)
-    (write-decimal-add-write-byte-2 t)
-    (write-decimal-write-byte-requires-2 t)
-    (write-decimal-same-length t)
-    (write-decimal-returns t)
-    (write-decimal-same-length-2 t)
-    (write-decimal-returns-2 t)
++write-decimal-spec = close μ λ t. lts.spec (calls t) (writes t) own.Post
+    (cast-write-byte t)
+    (add-write-byte t)
+    (write-byte-requires t)
+    (write-decimal-requires t)
+    (cast-write-byte-2 t)
+    (add-write-byte-2 t)
+    (write-byte-requires-2 t)
+    (same-length t)
+    (returns t)
+    (same-length-2 t)
+    (returns-2 t)
