@@ -35,11 +35,11 @@ toldAsked (asked.Refused r) = record { number = r .number; value = r .place }
 abbrev pub startLent : ℕ → ℕ → Lent
 startLent policy k = lent policy k 0 0 (replicate capacities 0) (replicate (suc capacities) 0) (replicate pages 0)
 
--- it holds what a start and these calls give
+-- the lent memory holds what a start and these calls give
 abbrev pub Given : ℕ → ℕ → List ℕ → Lent → Type 0
 Given policy k calls m = Gives policy k calls (m .value) (m .places) (m .depths) (m .counts)
 
--- it holds what some start and some calls give
+-- the lent memory holds what some start and some calls give: all that a reference asks
 abbrev pub Lives : Lent → Type 0
 Lives m = Alive (m .value) (m .places) (m .depths) (m .counts)
 
