@@ -8,7 +8,7 @@ use Rattle.row_theory.specs.declared.Reply.the-variants as reply
 use Rattle.row_theory.specs.declared.Victim.{Victim}
 use Rattle.row_theory.specs.declared.Victim.the-variants as victim
 use Rattle.exports.specs.declared.frame_row.Replied.{Replied}
-use Rattle.exports.specs.declared.frame_row.Chosen.{Chosen}
+use Rattle.exports.specs.declared.victim.Chosen.{Chosen}
 
 abbrev pub repliedOf : Reply → Replied
 repliedOf (reply.Done n) = record { number = 0; examined = n; place = 0 }

@@ -6,5 +6,6 @@ use Rattle.row_theory.specs.declared.Reply.{Reply}
 use Rattle.exports.specs.declared.frame_row.Replied.{Replied}
 use Rattle.exports.specs.Row.{repliedOf, RowTold}
 
-pub told : {m m′ : Memory} {call : Call} {reply : Reply} {replied : Replied} → Answered m call reply m′ → replied ≡ repliedOf reply → RowTold m call replied m′
-told p e = record { answer = e ∙ rw (p .answer); next = p .next; stands = p .stands }
+pub row-told : {m m′ : Memory} {call : Call} {reply : Reply} {replied : Replied} → Answered m call reply m′
+    → replied ≡ repliedOf reply → RowTold m call replied m′
+row-told p e = record { answer = e ∙ rw (p .answer); next = p .next; stands = p .stands }

@@ -11,63 +11,57 @@ use Rattle.session.specs.declared.Depth.{Depth}
 use Rattle.session.specs.declared.Depth.the-variants as depth
 use Rattle.session.specs.declared.Asked.{Asked}
 use Rattle.session.specs.declared.Asked.the-variants as asked
-use Rattle.session.specs.History.{startAnswer, referenceAnswer, acceptedOf, depthOf, listNow, hitsNow, missesNow, capacityAnswer}
-use Rattle.session.specs.Memory.{Gives, Value, Places, Depths}
+use Rattle.session.specs.History.{startAnswer, referenceAnswer, capacityAnswer}
+use Rattle.session.specs.History.{acceptedOf, depthOf, listNow, hitsNow, missesNow}
+use Rattle.session.specs.Memory.{Gives, Alive, Value, Places, Depths}
 use Rattle.session.specs.Answers.{depthAs}
 use Rattle.session.specs.Reads.{askedAs}
 use Rattle.exports.specs.declared.Told.{Told}
-use Rattle.exports.specs.declared.sessions.Found.{Found}
+use Rattle.exports.specs.declared.ToldNumber.{ToldNumber}
 use Rattle.exports.specs.Told.{toldOf}
-use Rattle.exports.specs.Trace.{numberOf}
+use Rattle.exports.specs.Trace.{pageNumber}
+use Rattle.exports.specs.Lent.{Lent, lent}
 
-abbrev pub foundDepth : Depth → Found
-foundDepth (depth.Accepted d) = record { number = 0; value = d }
-foundDepth (depth.Refused r) = record { number = r .number; value = r .place }
+-- A1: a depth, or a number asked for, beside 0; or the refusal's number and place
+abbrev pub toldDepth : Depth → ToldNumber
+toldDepth (depth.Accepted d) = record { number = 0; value = d }
+toldDepth (depth.Refused r) = record { number = r .number; value = r .place }
 
-abbrev pub foundNumber : Asked → Found
-foundNumber (asked.Number n) = record { number = 0; value = n }
-foundNumber (asked.Refused r) = record { number = r .number; value = r .place }
-
-abbrev pub sessionOf : ℕ → ℕ → ℕ → ℕ → Session
-sessionOf policy k length references = record { policy = policy; k = k; length = length; references = references }
-
--- all that the caller lends
-pub record Lent : Type 0 where
-  pub value : Session
-  pub places : List ℕ
-  pub depths : List ℕ
-  pub counts : List ℕ
-
-abbrev pub lent : ℕ → ℕ → ℕ → ℕ → List ℕ → List ℕ → List ℕ → Lent
-lent policy k length references places depths counts =
-    record { value = sessionOf policy k length references; places = places; depths = depths; counts = counts }
+abbrev pub toldAsked : Asked → ToldNumber
+toldAsked (asked.Number n) = record { number = 0; value = n }
+toldAsked (asked.Refused r) = record { number = r .number; value = r .place }
 
 -- what a start leaves
 abbrev pub startLent : ℕ → ℕ → Lent
 startLent policy k = lent policy k 0 0 (replicate capacities 0) (replicate (suc capacities) 0) (replicate pages 0)
 
--- it holds what a start and these calls give
+-- the lent memory holds what a start and these calls give
 abbrev pub Given : ℕ → ℕ → List ℕ → Lent → Type 0
 Given policy k calls m = Gives policy k calls (m .value) (m .places) (m .depths) (m .counts)
+
+-- the lent memory holds what some start and some calls give: all that a reference asks
+abbrev pub Lives : Lent → Type 0
+Lives m = Alive (m .value) (m .places) (m .depths) (m .counts)
 
 pub record StartTold (policy k : ℕ) (before after : Lent) (told : Told) : Type 0 where
   pub answer : told ≡ toldOf (startAnswer policy k)
   pub memory : after ≡ whenAccepted (startAnswer policy k) (startLent policy k) before
 
-pub record ReferTold (before : Lent) (page : ℕ) (after : Lent) (found : Found) : Type 0 where
+pub record ReferTold (before : Lent) (page : ℕ) (after : Lent) (told : ToldNumber) : Type 0 where
   pub answer : (policy k : ℕ) (calls : List ℕ) → Given policy k calls before
-      → found ≡ foundDepth (depthAs (referenceAnswer (acceptedOf calls) page) (depthOf policy k calls page))
+      → told ≡ toldDepth (depthAs (referenceAnswer (acceptedOf calls) page) (depthOf policy k calls page))
   pub next : (policy k : ℕ) (calls : List ℕ) → Given policy k calls before → Given policy k (page ∷ calls) after
 
 pub record ListShown (s : Session) (places shown : List ℕ) (r : ℕ) : Type 0 where
-  pub length-is : (policy k : ℕ) (calls : List ℕ) → Value policy k calls s → Places policy k calls places → r ≡ length (listNow policy k calls)
+  pub length-is : (policy k : ℕ) (calls : List ℕ) → Value policy k calls s → Places policy k calls places
+      → r ≡ length (listNow policy k calls)
   pub shown-is : (policy k : ℕ) (calls : List ℕ) → Value policy k calls s → Places policy k calls places
-      → shown ≡ map numberOf (placesOf (listNow policy k calls))
+      → shown ≡ map pageNumber (placesOf (listNow policy k calls))
 
-pub record HitsTold (s : Session) (depths : List ℕ) (c : ℕ) (found : Found) : Type 0 where
+pub record HitsTold (s : Session) (depths : List ℕ) (c : ℕ) (told : ToldNumber) : Type 0 where
   pub hits-are : (policy k : ℕ) (calls : List ℕ) → Value policy k calls s → Depths policy k calls depths
-      → found ≡ foundNumber (askedAs (capacityAnswer k c) (hitsNow policy c calls))
+      → told ≡ toldAsked (askedAs (capacityAnswer k c) (hitsNow policy c calls))
 
-pub record MissesTold (s : Session) (depths : List ℕ) (c : ℕ) (found : Found) : Type 0 where
+pub record MissesTold (s : Session) (depths : List ℕ) (c : ℕ) (told : ToldNumber) : Type 0 where
   pub misses-are : (policy k : ℕ) (calls : List ℕ) → Value policy k calls s → Depths policy k calls depths
-      → found ≡ foundNumber (askedAs (capacityAnswer k c) (missesNow policy c calls))
+      → told ≡ toldAsked (askedAs (capacityAnswer k c) (missesNow policy c calls))

@@ -14,11 +14,13 @@ pub record CountTold (trace : List ℕ) (policy k : ℕ) (before after : List �
   pub answer : told ≡ toldOf (countAnswer policy k (length before) trace)
   pub table : after ≡ countTable policy k trace before
 
-abbrev pub numberOf : Page → ℕ
-numberOf p = p .0
+-- N1: the number of a page
+abbrev pub pageNumber : Page → ℕ
+pageNumber p = p .0
 
 -- a refusal leaves the places and the length as they were (A3)
-pub record ListTold (trace : List ℕ) (policy k t : ℕ) (before : List ℕ) (length-before : ℕ) (after : List ℕ) (length-after : ℕ) (told : Told) : Type 0 where
+pub record ListTold (trace : List ℕ) (policy k t : ℕ) (before : List ℕ) (length-before : ℕ) (after : List ℕ) (length-after : ℕ)
+    (told : Told) : Type 0 where
   pub answer : told ≡ toldOf (listAnswer policy k trace t)
-  pub places : after ≡ whenAccepted (listAnswer policy k trace t) (map numberOf (placesOf (listShown policy k trace t))) before
+  pub places : after ≡ whenAccepted (listAnswer policy k trace t) (map pageNumber (placesOf (listShown policy k trace t))) before
   pub length-is : length-after ≡ whenAccepted (listAnswer policy k trace t) (length (listShown policy k trace t)) length-before

@@ -6,8 +6,10 @@ ghost use Rattle.exports.specs.Told.{toldOf};
 
 mod frame_row;
 mod report;
+mod session_reads;
 mod sessions;
 mod trace_file;
+mod victim;
 mod whole_trace;
 
 use rules::Answer;
@@ -17,6 +19,13 @@ use rules::Answer;
 pub struct Told {
     pub number: u8,
     pub place: usize,
+}
+
+// A number that was asked for: 0 and the number, or the refusal's number and its place.
+#[repr(C)]
+pub struct ToldNumber {
+    pub number: u8,
+    pub value: usize,
 }
 
 pub(crate) fn in_numbers(answer: Answer) -> Told

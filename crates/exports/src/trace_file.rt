@@ -1,6 +1,8 @@
 // The file reader for callers in C and Rust.
 use crate::Told;
+use crate::in_numbers;
 use file_theory::Reading;
+use rules::Answer;
 use rules::CAPACITIES;
 use rules::REFERENCES;
 ghost use Rattle.file_theory.specs.Decoding.{traceIn};
@@ -14,21 +16,17 @@ pub extern "C" fn musselrung_read(
     references: &mut [u16; REFERENCES],
     counts: &mut [usize; 2],
 ) -> Told
-    ensures { λ r. ⌜ FileTold (traceIn (now (file .entry))) (now (capacities .entry)) (now (references .entry)) (now (counts .entry)) r (now (capacities .exit)) (now (references .exit)) (now (counts .exit)) ⌝ }
+    ensures { λ r. ⌜ FileTold (traceIn (now (file .entry)))
+        (now (capacities .entry)) (now (references .entry)) (now (counts .entry)) r
+        (now (capacities .exit)) (now (references .exit)) (now (counts .exit)) ⌝ }
 {
     let reading = file::read(file, capacities, references);
     match reading {
         Reading::Accepted(c) => {
             counts[0] = c.capacities;
             counts[1] = c.references;
-            Told {
-                number: 0,
-                place: 0,
-            }
+            in_numbers(Answer::Accepted)
         }
-        Reading::Refused(r) => Told {
-            number: r.number,
-            place: r.place,
-        },
+        Reading::Refused(r) => in_numbers(Answer::Refused(r)),
     }
 }

@@ -1,7 +1,7 @@
 // Whole traces, and the list of a trace, for callers in C and Rust.
 ghost use mathlib.Core.List.{map};
 ghost use mathlib.Core.Path.{_≡_};
-ghost use Rattle.exports.specs.Trace.{CountTold, ListTold, numberOf};
+ghost use Rattle.exports.specs.Trace.{CountTold, ListTold, pageNumber};
 use crate::Told;
 use crate::in_numbers;
 use rules::Answer;
@@ -19,7 +19,7 @@ pub extern "C" fn musselrung_count(trace: &[u16], policy: u8, k: usize, hits: &m
 
 // The page numbers of places.
 pub(crate) fn page_numbers(shown: [Page; CAPACITIES]) -> [u16; CAPACITIES]
-    ensures { λ r. ⌜ r ≡ map numberOf shown ⌝ }
+    ensures { λ r. ⌜ r ≡ map pageNumber shown ⌝ }
 {
     let mut numbers = [0u16; CAPACITIES];
     let mut i = 0;
@@ -41,23 +41,18 @@ pub extern "C" fn musselrung_list(
     places: &mut [u16; CAPACITIES],
     length: &mut usize,
 ) -> Told
-    ensures { λ r. ⌜ ListTold (now (trace .entry)) policy k t (now (places .entry)) (now (length .entry)) (now (places .exit)) (now (length .exit)) r ⌝ }
+    ensures { λ r. ⌜ ListTold (now (trace .entry)) policy k t
+        (now (places .entry)) (now (length .entry)) (now (places .exit)) (now (length .exit)) r ⌝ }
 {
     let listed = count::list(trace, policy, k, t);
     let answer = listed.answer;
     let shown = listed.places;
     match answer {
-        Answer::Refused(r) => Told {
-            number: r.number,
-            place: r.place,
-        },
+        Answer::Refused(r) => in_numbers(Answer::Refused(r)),
         Answer::Accepted => {
             *places = page_numbers(shown);
             *length = listed.length;
-            Told {
-                number: 0,
-                place: 0,
-            }
+            in_numbers(Answer::Accepted)
         }
     }
 }

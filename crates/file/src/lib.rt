@@ -24,14 +24,11 @@ use scan::section;
 ghost use Rattle.rules.specs.Limits.{capacities as capacityLimit, references as referenceLimit};
 ghost use Rattle.file_theory.specs.Decoding.{pagesOf, referencesIn, traceBehind, traceIn};
 ghost use Rattle.file_theory.specs.Promises.{PartRead, FileRead};
-ghost use Rattle.file_theory.specs.Sections.{Found};
-
-// The longest file: two counts, and as many values as the limits allow (rule F5).
-pub const LONGEST: usize = 4 + 2 * CAPACITIES + 2 * REFERENCES;
+ghost use Rattle.file_theory.specs.Sections.{WholeSection};
 
 // The n references of a section that was found whole, with nothing behind it and no bad page among them.
 fn take_references(part: &[u8], n: usize, table: &mut [u16; REFERENCES]) -> Part
-    requires { ⌜ Found referenceLimit (now part) n ⌝ }
+    requires { ⌜ WholeSection referenceLimit (now part) n ⌝ }
     ensures { λ r. ⌜ PartRead (pagesOf (now (part .entry)) n) (now (table .entry)) r (now (table .exit)) ⌝ }
 {
     let left = bytes_left(part, n);
@@ -73,8 +70,10 @@ fn take_capacities(
     capacities: &mut [u16; CAPACITIES],
     references: &mut [u16; REFERENCES],
 ) -> Reading
-    requires { ⌜ Found capacityLimit (now file) n ⌝ }
-    ensures { λ r. ⌜ FileRead (traceBehind (now (file .entry)) n) (now (capacities .entry)) (now (references .entry)) r (now (capacities .exit)) (now (references .exit)) ⌝ }
+    requires { ⌜ WholeSection capacityLimit (now file) n ⌝ }
+    ensures { λ r. ⌜ FileRead (traceBehind (now (file .entry)) n)
+        (now (capacities .entry)) (now (references .entry)) r
+        (now (capacities .exit)) (now (references .exit)) ⌝ }
 {
     if !rising(file, n) {
         return Reading::Refused(Refusal {
@@ -103,7 +102,9 @@ pub fn read(
     capacities: &mut [u16; CAPACITIES],
     references: &mut [u16; REFERENCES],
 ) -> Reading
-    ensures { λ r. ⌜ FileRead (traceIn (now (file .entry))) (now (capacities .entry)) (now (references .entry)) r (now (capacities .exit)) (now (references .exit)) ⌝ }
+    ensures { λ r. ⌜ FileRead (traceIn (now (file .entry)))
+        (now (capacities .entry)) (now (references .entry)) r
+        (now (capacities .exit)) (now (references .exit)) ⌝ }
 {
     let found = section(file, CAPACITIES);
     match found {

@@ -17,7 +17,8 @@ use Rattle.file_theory.specs.declared.Reading.{Reading}
 use Rattle.file_theory.specs.declared.Part.the-variants as Part
 use Rattle.file_theory.specs.declared.Reading.the-variants as Reading
 use Rattle.file_theory.specs.Format.{sectionSize, sectionValues, behindSection}
-use Rattle.file_theory.specs.Decoding.{Outcome, says, refuses, unplaced, section, rising, firstOf, pagesAnswer, pagesOf, referencesIn, Trace, withCapacities, traceBehind, traceIn}
+use Rattle.file_theory.specs.Decoding.{Outcome, says, refuses, unplaced, section, rising, firstOf}
+use Rattle.file_theory.specs.Decoding.{pagesAnswer, pagesOf, referencesIn, Trace, withCapacities, traceBehind, traceIn}
 use Rattle.file_theory.specs.Promises.{overwritten, valuesOf, partOf, PartRead, FileRead}
 use Rattle.file_theory.specs.Words.{length-numbers, to-the-end}
 
@@ -34,7 +35,8 @@ module _ (part : List ℕ) (n : ℕ) where
       joined true rest = refl
       joined false rest = refl
 
-  pub pages-refused : (table : List ℕ) (r : Refusal) → Refused r ≡ pagesAnswer part n → PartRead (pagesOf part n) table (Part.Refused r) table
+  pub pages-refused : (table : List ℕ) (r : Refusal) → Refused r ≡ pagesAnswer part n
+      → PartRead (pagesOf part n) table (Part.Refused r) table
   unfolding pagesOf
   pages-refused table r e = rw (← e) (record { answered = refl; table = refl })
 
@@ -49,7 +51,8 @@ module _ (part table : List ℕ) where
   unfolding referencesIn
   part-cut e = rw (← e) (record { answered = refl; table = refl })
 
-  pub part-over : Over ≡ section references part → PartRead (referencesIn part) table (Part.Refused (unplaced tooManyReferences)) table
+  pub part-over : Over ≡ section references part
+      → PartRead (referencesIn part) table (Part.Refused (unplaced tooManyReferences)) table
   unfolding referencesIn
   part-over e = rw (← e) (record { answered = refl; table = refl })
 
@@ -66,7 +69,8 @@ handed-on file n before p e = rw (to-the-end (sectionSize n) file, e) at p
 
 -- what stands behind capacities that keep the rules
 module _ (file : List ℕ) (n : ℕ) (caps refs : List ℕ) where
-  pub not-rising : rising 0 (sectionValues n file) ≡ false → FileRead (traceBehind file n) caps refs (Reading.Refused (unplaced badCapacities)) caps refs
+  pub not-rising : rising 0 (sectionValues n file) ≡ false
+      → FileRead (traceBehind file n) caps refs (Reading.Refused (unplaced badCapacities)) caps refs
   unfolding traceBehind
   not-rising e = rw e (record { answered = refl; caps-table = refl; refs-table = refl })
 
@@ -79,7 +83,8 @@ module _ (file : List ℕ) (n : ℕ) (caps refs : List ℕ) where
       passed : (o : Outcome (List ℕ)) → Part.Refused r ≡ partOf o → after ≡ overwritten (valuesOf o) refs
           → FileRead (withCapacities (sectionValues n file) o) caps refs (Reading.Refused r) caps after
       passed (says rs) a t = let z : _≡_ {A = ℕ} 0 1 = cc in absurd (omega arith)
-      passed (refuses x) a t = record { answered = ap Reading.Refused (let q : r ≡ x = cc in q); caps-table = refl; refs-table = t }
+      passed (refuses x) a t =
+          record { answered = ap Reading.Refused (let q : r ≡ x = cc in q); caps-table = refl; refs-table = t }
 
   pub behind-read : (m : ℕ) (caps-after after : List ℕ) → rising 0 (sectionValues n file) ≡ true
       → PartRead (referencesIn (behindSection n file)) refs (Part.References m) after
@@ -89,7 +94,8 @@ module _ (file : List ℕ) (n : ℕ) (caps refs : List ℕ) where
   behind-read m caps-after after e p copied = rw e (passed (referencesIn (behindSection n file)) (p .answered) (p .table))
     where
       passed : (o : Outcome (List ℕ)) → Part.References m ≡ partOf o → after ≡ overwritten (valuesOf o) refs
-          → FileRead (withCapacities (sectionValues n file) o) caps refs (Reading.Accepted (record { capacities = n; references = m })) caps-after after
+          → FileRead (withCapacities (sectionValues n file) o) caps refs
+          (Reading.Accepted (record { capacities = n; references = m })) caps-after after
       passed (says rs) a t =
           let q : m ≡ length rs = cc in
           record { answered = rw (q, length-numbers n (drop 2 file)); caps-table = copied; refs-table = t }
@@ -101,18 +107,22 @@ module _ (file caps refs : List ℕ) where
   unfolding traceIn
   file-cut e = rw (← e) (record { answered = refl; caps-table = refl; refs-table = refl })
 
-  pub file-over : Over ≡ section capacities file → FileRead (traceIn file) caps refs (Reading.Refused (unplaced badCapacities)) caps refs
+  pub file-over : Over ≡ section capacities file
+      → FileRead (traceIn file) caps refs (Reading.Refused (unplaced badCapacities)) caps refs
   unfolding traceIn
   file-over e = rw (← e) (record { answered = refl; caps-table = refl; refs-table = refl })
 
   pub file-whole : (n : ℕ) (answer : Reading) (caps-after after : List ℕ) → Values n ≡ section capacities file
-      → FileRead (traceBehind file n) caps refs answer caps-after after → FileRead (traceIn file) caps refs answer caps-after after
+      → FileRead (traceBehind file n) caps refs answer caps-after after
+      → FileRead (traceIn file) caps refs answer caps-after after
   unfolding traceIn
   file-whole n answer caps-after after e p = rw (← e) p
 
 -- two answers that both meet a promise are equal, and so are the tables they leave
-pub part-read-once : {o : Outcome (List ℕ)} {before : List ℕ} {a b : Part} {x y : List ℕ} → PartRead o before a x → PartRead o before b y → (a ≡ b) × (x ≡ y)
+pub part-read-once : {o : Outcome (List ℕ)} {before : List ℕ} {a b : Part} {x y : List ℕ} → PartRead o before a x
+    → PartRead o before b y → (a ≡ b) × (x ≡ y)
 part-read-once p q = (p .answered ∙ sym (q .answered), p .table ∙ sym (q .table))
 
-pub file-read-once : {o : Outcome Trace} {caps refs : List ℕ} {a b : Reading} {x y u v : List ℕ} → FileRead o caps refs a x u → FileRead o caps refs b y v → (a ≡ b) × (x ≡ y) × (u ≡ v)
+pub file-read-once : {o : Outcome Trace} {caps refs : List ℕ} {a b : Reading} {x y u v : List ℕ} → FileRead o caps refs a x u
+    → FileRead o caps refs b y v → (a ≡ b) × (x ≡ y) × (u ≡ v)
 file-read-once p q = (p .answered ∙ sym (q .answered), p .caps-table ∙ sym (q .caps-table), p .refs-table ∙ sym (q .refs-table))

@@ -41,7 +41,8 @@ pub record PartRead (outcome : Outcome (List ℕ)) (before : List ℕ) (answer :
   pub table : after ≡ overwritten (valuesOf outcome) before
 
 -- a reader of files: what the file is read as, its two tables before, its answer, its two tables after
-pub record FileRead (outcome : Outcome Trace) (caps-before refs-before : List ℕ) (answer : Reading) (caps-after refs-after : List ℕ) : Type 0 where
+pub record FileRead (outcome : Outcome Trace) (caps-before refs-before : List ℕ) (answer : Reading)
+    (caps-after refs-after : List ℕ) : Type 0 where
   pub answered : answer ≡ readingOf outcome
   pub caps-table : caps-after ≡ overwritten (capsOf outcome) caps-before
   pub refs-table : refs-after ≡ overwritten (refsOf outcome) refs-before

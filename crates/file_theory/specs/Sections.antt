@@ -15,13 +15,13 @@ use Rattle.file_theory.specs.Decoding.{section}
 use Rattle.file_theory.specs.Words.{Bytes, length-numbers, length-bytesOf, numbers-bytesOf, bytesOf-numbers}
 
 -- what a section that is found tells of its bytes
-pub record Found (limit : ℕ) (bytes : List ℕ) (n : ℕ) : Type 0 where
+pub record WholeSection (limit : ℕ) (bytes : List ℕ) (n : ℕ) : Type 0 where
   pub count : numberAt bytes 0 ≡ n
   pub within : n ≤ limit
   pub whole : sectionSize n ≤ length bytes
 
-pub found : (limit : ℕ) (bytes : List ℕ) (n : ℕ) → section limit bytes ≡ Values n → Found limit bytes n
-found limit bytes n =
+pub whole-section : (limit : ℕ) (bytes : List ℕ) (n : ℕ) → section limit bytes ≡ Values n → WholeSection limit bytes n
+whole-section limit bytes n =
     by-cases (ltb (length bytes) 2)
     (λ short. rw short λ e. absurd (cut≢ n e))
     (λ long. rw long
@@ -41,7 +41,8 @@ found limit bytes n =
     counted : Values (numberAt bytes 0) ≡ Values n → numberAt bytes 0 ≡ n
     counted e = cc
 
-    made : numberAt bytes 0 ≡ n → numberAt bytes 0 ≤ limit → sectionSize (numberAt bytes 0) ≤ length bytes → Found limit bytes n
+    made : numberAt bytes 0 ≡ n → numberAt bytes 0 ≤ limit → sectionSize (numberAt bytes 0) ≤ length bytes
+        → WholeSection limit bytes n
     made e w l = record { count = e; within = omega arith; whole = omega arith }
 
 -- the section of some values, before any rest, is found whole
@@ -54,7 +55,8 @@ module _ (values rest : List ℕ) where
   unfolding bytesOf
   whole-length = simp length-append (omega (arith, length-bytesOf values))
 
-  pub section-encoded : (limit : ℕ) → length values ≤ limit → section limit (encodeSection values ++ rest) ≡ Values (length values)
+  pub section-encoded : (limit : ℕ) → length values ≤ limit
+      → section limit (encodeSection values ++ rest) ≡ Values (length values)
   section-encoded limit h =
       rw (
         whole-count,
@@ -75,13 +77,14 @@ module _ (values rest : List ℕ) where
       rw e (drop-at (bytesOf values) rest (2 * length values) (length-bytesOf values))
 
 -- a section that is found, with what stands behind it, is the bytes themselves
-pub section-again : (limit : ℕ) (bytes : List ℕ) (n : ℕ) → Bytes bytes → Found limit bytes n
+pub section-again : (limit : ℕ) (bytes : List ℕ) (n : ℕ) → Bytes bytes → WholeSection limit bytes n
     → encodeSection (sectionValues n bytes) ++ behindSection n bytes ≡ bytes
 unfolding numbers
 section-again limit bytes n all f =
     let whole : 2 * suc n ≤ length bytes = omega arith in
     let e : 2 * suc n ≡ sectionSize n = omega arith in
-    ap {B = List ℕ} (λ k. bytesOf (k ∷ sectionValues n bytes) ++ behindSection n bytes) (length-numbers n (drop 2 bytes) ∙ sym (f .count))
+    ap {B = List ℕ} (λ k. bytesOf (k ∷ sectionValues n bytes) ++ behindSection n bytes)
+    (length-numbers n (drop 2 bytes) ∙ sym (f .count))
     ∙ ap {B = List ℕ} (λ t. t ++ behindSection n bytes) (bytesOf-numbers (suc n) bytes all whole)
     ∙ ap {B = List ℕ} (λ k. take k bytes ++ behindSection n bytes) e
     ∙ take-append-drop (sectionSize n) bytes

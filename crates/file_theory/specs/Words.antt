@@ -1,4 +1,5 @@
--- Laws of the numbers of a file (Format, Encoding): how many, which one stands at an index, and that writing numbers as bytes and reading bytes as numbers undo each other.
+-- Laws of the numbers of a file (Format, Encoding): how many, which one stands at an index, and that writing numbers as bytes
+-- and reading bytes as numbers undo each other.
 use Prim.Native.Nat.{ℕ, zero, suc, _+_, _-_, _*_, _%_, _/_, _≤_, _<_}
 use mathlib.Core.Path.{_≡_, refl, ap, ap₂, _∙_}
 use mathlib.Core.List.{List, [], _∷_, _++_}
@@ -69,7 +70,8 @@ numbers-bytesOf (v ∷ values) rest =
     ap₂ {C = List ℕ} (λ a t. a ∷ t) e (numbers-bytesOf values rest)
 
 -- what is read is what was written, of bytes
-pub bytesOf-numbers : (n : ℕ) (bytes : List ℕ) → Bytes bytes → 2 * n ≤ length bytes → bytesOf (numbers n bytes) ≡ take (2 * n) bytes
+pub bytesOf-numbers : (n : ℕ) (bytes : List ℕ) → Bytes bytes → 2 * n ≤ length bytes
+    → bytesOf (numbers n bytes) ≡ take (2 * n) bytes
 unfolding bytesOf numbers
 bytesOf-numbers zero bytes all h = refl
 bytesOf-numbers (suc n) [] all h = absurd (omega arith)

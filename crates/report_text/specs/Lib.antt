@@ -1,2 +1,2 @@
--- What the promises of counting tell the report.
+-- Laws only: what the promises of counting tell the report.
 pub mod Tables

@@ -14,31 +14,31 @@ use Rattle.rules.specs.Limits.{capacities, isCapacity, lru, lfu, opt}
 use Rattle.theory.specs.Plain.{hitsAt}
 use Rattle.file_theory.specs.Decoding.{rising}
 use Rattle.report_theory.specs.Report.{line, lines}
-use Rattle.report_theory.specs.Buffer.{Wrote, put-nothing}
+use Rattle.report_theory.specs.Buffer.{Wrote, written-nothing}
 use Rattle.report_theory.specs.Pieces.{longestLine, line-short}
 
 -- A4: entry C - 1 of a hit table is the hits at C; at no frames there are none
-abbrev pub entry : List ℕ → ℕ → ℕ
-entry table c = getD (0 ∷ table) c 0
+abbrev pub hitsIn : List ℕ → ℕ → ℕ
+hitsIn table c = getD (0 ∷ table) c 0
 
-pub entry-none : (table : List ℕ) (c : ℕ) → c < 1 → entry table c ≡ 0
-entry-none table zero h = refl
-entry-none table (suc c) h = absurd (omega arith)
+pub hits-none : (table : List ℕ) (c : ℕ) → c < 1 → hitsIn table c ≡ 0
+hits-none table zero h = refl
+hits-none table (suc c) h = absurd (omega arith)
 
-pub entry-past : (table : List ℕ) (c : ℕ) → length table < c → entry table c ≡ 0
-entry-past table c h = List·getD-eq-default (0 ∷ table) 0 h
+pub hits-past : (table : List ℕ) (c : ℕ) → length table < c → hitsIn table c ≡ 0
+hits-past table c h = List·getD-eq-default (0 ∷ table) 0 h
 
-pub entry-at : (table : List ℕ) (c : ℕ) → 1 ≤ c → getD table (c - 1) 0 ≡ entry table c
-entry-at table zero h = absurd (omega arith)
-entry-at table (suc c) h = rw sub-one
+pub hits-entry : (table : List ℕ) (c : ℕ) → 1 ≤ c → getD table (c - 1) 0 ≡ hitsIn table c
+hits-entry table zero h = absurd (omega arith)
+hits-entry table (suc c) h = rw sub-one
 
 -- every number of a table fits 32 bits
 abbrev pub Fits32 : List ℕ → Type 0
 Fits32 table = (i : ℕ) → getD table i 0 < 2 ^ 32
 
-pub entry-fits : (table : List ℕ) → Fits32 table → (c : ℕ) → entry table c < 2 ^ 32
-entry-fits table all zero = omega arith
-entry-fits table all (suc c) = all c
+pub hits-fits : (table : List ℕ) → Fits32 table → (c : ℕ) → hitsIn table c < 2 ^ 32
+hits-fits table all zero = omega arith
+hits-fits table all (suc c) = all c
 
 pub fits-take : (i : ℕ) (table : List ℕ) → Fits32 table → Fits32 (take i table)
 fits-take zero table all j = omega arith
@@ -48,20 +48,23 @@ fits-take (suc i) (x ∷ table) all (suc j) = fits-take i table (λ k. all (suc 
 
 -- the lines of some capacities, read off the tables of the three policies
 module _ (a b c : List ℕ) where
+  abbrev pub tableLine : ℕ → List ℕ
+  tableLine k = line k (hitsIn a k) (hitsIn b k) (hitsIn c k)
+
   unfoldable pub tableLines : List ℕ → List ℕ
   tableLines [] = []
-  tableLines (k ∷ ks) = line k (entry a k) (entry b k) (entry c k) ++ tableLines ks
+  tableLines (k ∷ ks) = tableLine k ++ tableLines ks
 
-  lines-snoc : (ks : List ℕ) (k : ℕ) → tableLines (ks ++ (k ∷ [])) ≡ tableLines ks ++ line k (entry a k) (entry b k) (entry c k)
+  lines-snoc : (ks : List ℕ) (k : ℕ) → tableLines (ks ++ (k ∷ [])) ≡ tableLines ks ++ tableLine k
   unfolding tableLines
-  lines-snoc [] k = append-nil (line k (entry a k) (entry b k) (entry c k))
+  lines-snoc [] k = append-nil (tableLine k)
   lines-snoc (j ∷ ks) k =
-      ap {B = List ℕ} (λ t. line j (entry a j) (entry b j) (entry c j) ++ t) (lines-snoc ks k)
-      ∙ sym (append-assoc (line j (entry a j) (entry b j) (entry c j)) (tableLines ks) (line k (entry a k) (entry b k) (entry c k)))
+      ap {B = List ℕ} (λ t. tableLine j ++ t) (lines-snoc ks k)
+      ∙ sym (append-assoc (tableLine j) (tableLines ks) (tableLine k))
 
   -- one line more
   pub lines-more : (ks : List ℕ) (i : ℕ) → i < length ks
-      → tableLines (take (suc i) ks) ≡ tableLines (take i ks) ++ line (getD ks i 0) (entry a (getD ks i 0)) (entry b (getD ks i 0)) (entry c (getD ks i 0))
+      → tableLines (take (suc i) ks) ≡ tableLines (take i ks) ++ tableLine (getD ks i 0)
   lines-more ks i h = rw (take-suc ks i 0 h) (lines-snoc (take i ks) (getD ks i 0))
 
   pub lines-short : Fits32 a → Fits32 b → Fits32 c → (ks : List ℕ) → Fits32 ks → length (tableLines ks) ≤ longestLine * length ks
@@ -69,21 +72,24 @@ module _ (a b c : List ℕ) where
   lines-short fa fb fc [] f = omega arith
   lines-short fa fb fc (k ∷ ks) f =
       let ih = lines-short fa fb fc ks (λ i. f (suc i)) in
-      simp length-append (omega (arith, ih, line-short k (entry a k) (entry b k) (entry c k) (f 0) (entry-fits a fa k) (entry-fits b fb k) (entry-fits c fc k)))
+      let here =
+      line-short k (hitsIn a k) (hitsIn b k) (hitsIn c k) (f 0) (hits-fits a fa k) (hits-fits b fb k) (hits-fits c fc k) in
+      simp length-append (omega (arith, ih, here))
 
   pub no-lines : (at : ℕ) (out : List ℕ) → Wrote at (tableLines []) out at out
   unfolding tableLines
-  no-lines at out = record { place = sym (add-zero at); buffer = sym (put-nothing at out) }
+  no-lines at out = record { place = sym (add-zero at); buffer = sym (written-nothing at out) }
 
   -- the lines so far leave room for one more
-  pub lines-room : Fits32 a → Fits32 b → Fits32 c → (ks : List ℕ) → Fits32 ks → (i : ℕ) → i ≤ length ks → length (tableLines (take i ks)) ≤ longestLine * i
+  pub lines-room : Fits32 a → Fits32 b → Fits32 c → (ks : List ℕ) → Fits32 ks → (i : ℕ) → i ≤ length ks
+      → length (tableLines (take i ks)) ≤ longestLine * i
   lines-room fa fb fc ks f i h =
       let l : length (take i ks) ≡ i = length-take-le i ks h in
       omega (arith, lines-short fa fb fc (take i ks) (fits-take i ks f))
 
 -- a table holds a policy's hits at every capacity (A4)
 abbrev pub Holds : ℕ → List ℕ → List ℕ → Type 0
-Holds policy refs table = (k : ℕ) → 1 ≤ k → k ≤ capacities → entry table k ≡ hitsAt policy k refs
+Holds policy refs table = (k : ℕ) → 1 ≤ k → k ≤ capacities → hitsIn table k ≡ hitsAt policy k refs
 
 both : (x y : Bool) → x && y ≡ true → (x ≡ true) × (y ≡ true)
 both true true e = (refl, refl)

@@ -10,37 +10,41 @@ use Rattle.report_theory.specs.Buffer.{Wrote, then}
 use Rattle.report_theory.specs.Decimals.{decimal-short}
 
 -- a number with the byte behind it: what the code writes in one go
-abbrev pub number : ℕ → ℕ → List ℕ
-number n behind = decimal n ++ (behind ∷ [])
+abbrev pub numberThen : ℕ → ℕ → List ℕ
+numberThen n behind = decimal n ++ (behind ∷ [])
 
-pub line-numbers : (k a b c : ℕ) → line k a b c ≡ number k 32 ++ number a 32 ++ number b 32 ++ number c 10
+pub line-numbers : (k a b c : ℕ) → line k a b c ≡ numberThen k 32 ++ numberThen a 32 ++ numberThen b 32 ++ numberThen c 10
 unfolding line
 line-numbers k a b c = simp append-assoc
 
-pub length-line : (k a b c : ℕ) → length (line k a b c) ≡ length (number k 32) + length (number a 32) + length (number b 32) + length (number c 10)
+pub length-line : (k a b c : ℕ)
+    → length (line k a b c)
+    ≡ length (numberThen k 32) + length (numberThen a 32) + length (numberThen b 32) + length (numberThen c 10)
 length-line k a b c =
     ap length (line-numbers k a b c)
     ∙ omega (
       arith,
-      length-append (number k 32 ++ number a 32 ++ number b 32) (number c 10),
-      length-append (number k 32 ++ number a 32) (number b 32),
-      length-append (number k 32) (number a 32),
+      length-append (numberThen k 32 ++ numberThen a 32 ++ numberThen b 32) (numberThen c 10),
+      length-append (numberThen k 32 ++ numberThen a 32) (numberThen b 32),
+      length-append (numberThen k 32) (numberThen a 32),
     )
 
-pub ending-numbers : (n : ℕ) → ending n ≡ text "references " ++ number n 10
+pub ending-numbers : (n : ℕ) → ending n ≡ text "references " ++ numberThen n 10
 unfolding ending
 ending-numbers n = simp append-assoc
 
-pub refused-numbers : (n : ℕ) → refusedLine n ≡ text "refused " ++ number n 10
+pub refused-numbers : (n : ℕ) → refusedLine n ≡ text "refused " ++ numberThen n 10
 unfolding refusedLine
 refused-numbers n = simp append-assoc
 
 -- the report of an accepted file, from the texts that it is put together from
-pub report-put : {first second third last : ℕ} {out out₁ out₂ out₃ out₄ : List ℕ} (body : List ℕ) (n : ℕ) → length heading + length body + 11 ≤ length out
-    → Wrote 0 heading out first out₁ → Wrote first body out₁ second out₂ → Wrote second (text "references ") out₂ third out₃ → Wrote third (number n 10) out₃ last out₄
+pub report-written : {first second third last : ℕ} {out out₁ out₂ out₃ out₄ : List ℕ} (body : List ℕ) (n : ℕ)
+    → length heading + length body + 11 ≤ length out
+    → Wrote 0 heading out first out₁ → Wrote first body out₁ second out₂ → Wrote second (text "references ") out₂ third out₃
+    → Wrote third (numberThen n 10) out₃ last out₄
     → Wrote 0 (heading ++ body ++ ending n) out last out₄
-report-put body n room a b c d =
-    rw (ending-numbers n, ← append-assoc (heading ++ body) (text "references ") (number n 10))
+report-written body n room a b c d =
+    rw (ending-numbers n, ← append-assoc (heading ++ body) (text "references ") (numberThen n 10))
     (then (omega (arith, length-append heading body, length-append (heading ++ body) (text "references ")))
     (then (omega (arith, length-append heading body)) (then (omega arith) a b) c) d)
 
@@ -54,5 +58,5 @@ line-short k a b c hk ha hb hc =
     simp length-append
     (omega (arith, decimal-short k hk, decimal-short a ha, decimal-short b hb, decimal-short c hc))
 
-pub number-short : (n behind : ℕ) → n < 2 ^ 32 → length (number n behind) ≤ 11
+pub number-short : (n behind : ℕ) → n < 2 ^ 32 → length (numberThen n behind) ≤ 11
 number-short n behind h = omega (arith, length-append (decimal n) (behind ∷ []), decimal-short n h)

@@ -1,7 +1,7 @@
 -- `file::read`: each kind of section is one law.
 use mathlib.Core.Path.{sym, _∙_}
 use Rattle.rules.specs.Limits.{capacities as capacityLimit}
-use Rattle.file_theory.specs.Sections.{found}
+use Rattle.file_theory.specs.Sections.{whole-section}
 use Rattle.file_theory.specs.Answers.{file-cut, file-over, file-whole}
 use borrow.Author.Needs.{needs}
 use Rattle.file.proofs.read.Statement.{statement}
@@ -21,23 +21,35 @@ enum-known-found c = search needs
 
 take-capacities-requires : tie.Need-take-capacities-requires
 take-capacities-requires c κs =
-    let a = c .before .before .before .before .before .before .before .args in
-    found capacityLimit (a .file .now) _ (sym (c .before .before .before .before .before .section .ensures) ∙ c .before .before .before .found .given .1)
+    let taken = c .before .before .before in
+    let sectioned = taken .before .before in
+    let a = sectioned .before .before .args in
+    whole-section capacityLimit (a .file .now) _ (sym (sectioned .section .ensures) ∙ taken .found .given .1)
 
 returns : tie.Need-returns
 returns c =
-    let a = c .before .before .before .before .args in
-    file-cut (a .file .now) (a .capacities .now) (a .references .now) (sym (c .enum-told .given .1) ∙ c .before .before .section .ensures)
+    let sectioned = c .before .before in
+    let a = sectioned .before .before .args in
+    file-cut (a .file .now) (a .capacities .now) (a .references .now)
+    (sym (c .enum-told .given .1) ∙ sectioned .section .ensures)
 
 returns-2 : tie.Need-returns-2
 returns-2 c =
-    let a = c .before .before .before .before .args in
-    file-over (a .file .now) (a .capacities .now) (a .references .now) (sym (c .enum-told2 .given .1) ∙ c .before .before .section .ensures)
+    let sectioned = c .before .before in
+    let a = sectioned .before .before .args in
+    file-over (a .file .now) (a .capacities .now) (a .references .now)
+    (sym (c .enum-told2 .given .1) ∙ sectioned .section .ensures)
 
 returns-3 : tie.Need-returns-3
 returns-3 c =
-    let a = c .before .before .before .before .before .before .before .before .args in
-    file-whole (a .file .now) (a .capacities .now) (a .references .now) _ (c .take-capacities .result) (c .take-capacities .last .1 .1 .0) (c .take-capacities .last .1 .1 .1 .0) (sym (c .before .before .before .before .found .given .1) ∙ c .before .before .before .before .before .before .section .ensures) (c .take-capacities .ensures)
+    let called = c .before .before in
+    let taken = called .before .before in
+    let sectioned = taken .before .before in
+    let a = sectioned .before .before .args in
+    let left = c .take-capacities .last .1 .1 in
+    file-whole (a .file .now) (a .capacities .now) (a .references .now) _ (c .take-capacities .result) (left .0) (left .1 .0)
+    (sym (taken .found .given .1) ∙ sectioned .section .ensures)
+    (c .take-capacities .ensures)
 
 pub read-spec : {M : Type 1} → statement M
 read-spec =

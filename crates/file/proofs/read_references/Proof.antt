@@ -1,7 +1,7 @@
 -- `file::read_references`: each kind of section is one law.
 use mathlib.Core.Path.{sym, _∙_}
 use Rattle.rules.specs.Limits.{references as referenceLimit}
-use Rattle.file_theory.specs.Sections.{found}
+use Rattle.file_theory.specs.Sections.{whole-section}
 use Rattle.file_theory.specs.Answers.{part-cut, part-over, part-whole}
 use borrow.Author.Needs.{needs}
 use Rattle.file.proofs.read_references.Statement.{statement}
@@ -21,23 +21,31 @@ enum-known-found c = search needs
 
 take-references-requires : tie.Need-take-references-requires
 take-references-requires c κs =
-    let a = c .before .before .before .before .before .before .args in
-    found referenceLimit (a .part .now) _ (sym (c .before .before .before .before .section .ensures) ∙ c .before .before .found .given .1)
+    let taken = c .before .before in
+    let sectioned = taken .before .before in
+    let a = sectioned .before .before .args in
+    whole-section referenceLimit (a .part .now) _ (sym (sectioned .section .ensures) ∙ taken .found .given .1)
 
 returns : tie.Need-returns
 returns c =
-    let a = c .before .before .before .before .args in
-    part-cut (a .part .now) (a .table .now) (sym (c .enum-told .given .1) ∙ c .before .before .section .ensures)
+    let sectioned = c .before .before in
+    let a = sectioned .before .before .args in
+    part-cut (a .part .now) (a .table .now) (sym (c .enum-told .given .1) ∙ sectioned .section .ensures)
 
 returns-2 : tie.Need-returns-2
 returns-2 c =
-    let a = c .before .before .before .before .args in
-    part-over (a .part .now) (a .table .now) (sym (c .enum-told2 .given .1) ∙ c .before .before .section .ensures)
+    let sectioned = c .before .before in
+    let a = sectioned .before .before .args in
+    part-over (a .part .now) (a .table .now) (sym (c .enum-told2 .given .1) ∙ sectioned .section .ensures)
 
 returns-3 : tie.Need-returns-3
 returns-3 c =
-    let a = c .before .before .before .before .before .before .before .args in
-    part-whole (a .part .now) (a .table .now) _ (c .take-references .result) (c .take-references .last .1 .1 .0) (sym (c .before .before .before .found .given .1) ∙ c .before .before .before .before .before .section .ensures) (c .take-references .ensures)
+    let taken = c .before .before .before in
+    let sectioned = taken .before .before in
+    let a = sectioned .before .before .args in
+    part-whole (a .part .now) (a .table .now) _ (c .take-references .result) (c .take-references .last .1 .1 .0)
+    (sym (taken .found .given .1) ∙ sectioned .section .ensures)
+    (c .take-references .ensures)
 
 pub read-references-spec : {M : Type 1} → statement M
 read-references-spec =

@@ -1,4 +1,5 @@
--- `file::take_capacities`: each way out is one law of what stands behind the capacities. The part handed on is all of the file behind them.
+-- `file::take_capacities`: each way out is one law of what stands behind the capacities. The part handed on is all of the file
+-- behind them.
 use mathlib.Core.Path.{sym, _∙_}
 use borrow.Author.Tests.{not-true, not-false}
 use Rattle.file_theory.specs.Answers.{handed-on, not-rising, behind-refused, behind-read}
@@ -11,8 +12,10 @@ rising-requires c κs = search needs
 
 returns : tie.Need-returns
 returns c =
-    let a = c .before .before .before .args in
-    not-rising (a .file .now) (a .n) (a .capacities .now) (a .references .now) (sym (c .before .rising .ensures) ∙ not-true (c .before .rising .result) (c .if1 .taken))
+    let scanned = c .before in
+    let a = scanned .before .before .args in
+    not-rising (a .file .now) (a .n) (a .capacities .now) (a .references .now)
+    (sym (scanned .rising .ensures) ∙ not-true (scanned .rising .result) (c .if1 .taken))
 
 mul-at : tie.Need-mul-at
 mul-at c = search needs
@@ -43,19 +46,25 @@ copy-values-requires c κs = search needs
 
 returns-2 : tie.Need-returns-2
 returns-2 c =
-    let at-call = c .before .before .before in
-    let a = at-call .before .before .before .before .before .before .args in
-    behind-refused (a .file .now) (a .n) (a .capacities .now) (a .references .now) _ (at-call .read-references .last .1 .0)
-    (sym (at-call .before .before .before .before .rising .ensures) ∙ not-false (at-call .before .before .before .before .rising .result) (at-call .before .before .before .if1 .left))
-    (handed-on (a .file .now) (a .n) (a .references .now) (at-call .read-references .ensures) (c .before .behind .given .1))
+    let called = c .before .before .before in
+    let passed = called .before .before .before in
+    let scanned = passed .before in
+    let a = scanned .before .before .args in
+    behind-refused (a .file .now) (a .n) (a .capacities .now) (a .references .now) _ (called .read-references .last .1 .0)
+    (sym (scanned .rising .ensures) ∙ not-false (scanned .rising .result) (passed .if1 .left))
+    (handed-on (a .file .now) (a .n) (a .references .now) (called .read-references .ensures) (c .before .behind .given .1))
 
 returns-3 : tie.Need-returns-3
 returns-3 c =
-    let at-call = c .before .before .before .before .before in
-    let a = at-call .before .before .before .before .before .before .args in
-    behind-read (a .file .now) (a .n) (a .capacities .now) (a .references .now) _ (c .copy-values .last .1 .1 .0) (at-call .read-references .last .1 .0)
-    (sym (at-call .before .before .before .before .rising .ensures) ∙ not-false (at-call .before .before .before .before .rising .result) (at-call .before .before .before .if1 .left))
-    (handed-on (a .file .now) (a .n) (a .references .now) (at-call .read-references .ensures) (c .before .before .before .behind2 .given .1))
+    let taken = c .before .before .before in
+    let called = taken .before .before in
+    let passed = called .before .before .before in
+    let scanned = passed .before in
+    let a = scanned .before .before .args in
+    behind-read (a .file .now) (a .n) (a .capacities .now) (a .references .now) _ (c .copy-values .last .1 .1 .0)
+    (called .read-references .last .1 .0)
+    (sym (scanned .rising .ensures) ∙ not-false (scanned .rising .result) (passed .if1 .left))
+    (handed-on (a .file .now) (a .n) (a .references .now) (called .read-references .ensures) (taken .behind2 .given .1))
     (c .copy-values .ensures)
 
 pub take-capacities-spec : {M : Type 1} → statement M

@@ -1,4 +1,5 @@
--- `file::take_references`: the two checks are made in the order of refusals, and each way out is one law of what the references are read as.
+-- `file::take_references`: the two checks are made in the order of refusals, and each way out is one law of what the references
+-- are read as.
 use mathlib.Core.Path.{sym, _∙_}
 use Rattle.file_theory.specs.Answers.{in-order, pages-refused, pages-taken}
 use borrow.Author.Needs.{needs}
@@ -25,17 +26,28 @@ copy-values-requires c κs = search needs
 
 returns : tie.Need-returns
 returns c =
-    let a = c .before .before .before .before .before .before .before .args in
     let checked = c .before .before .before in
-    let order = in-order (a .part .now) (a .n) (checked .first-refusal .ensures) (checked .before .before .bytes-left .ensures) (checked .before .first-bad-page .ensures) in
+    let looked = checked .before in
+    let left = looked .before in
+    let a = left .before .before .args in
+    let order =
+    in-order (a .part .now) (a .n) (checked .first-refusal .ensures) (left .bytes-left .ensures)
+    (looked .first-bad-page .ensures) in
     pages-refused (a .part .now) (a .n) (a .table .now) _ (sym (c .before .found .given .1) ∙ order)
 
 returns-2 : tie.Need-returns-2
 returns-2 c =
-    let a = c .before .before .before .before .before .before .before .before .args in
-    let checked = c .before .before .before .before in
-    let order = in-order (a .part .now) (a .n) (checked .first-refusal .ensures) (checked .before .before .bytes-left .ensures) (checked .before .first-bad-page .ensures) in
-    pages-taken (a .part .now) (a .n) (a .table .now) (c .copy-values .last .1 .1 .0) (sym (c .before .before .enum-told .given .1) ∙ order) (c .copy-values .ensures)
+    let taken = c .before .before in
+    let checked = taken .before .before in
+    let looked = checked .before in
+    let left = looked .before in
+    let a = left .before .before .args in
+    let order =
+    in-order (a .part .now) (a .n) (checked .first-refusal .ensures) (left .bytes-left .ensures)
+    (looked .first-bad-page .ensures) in
+    pages-taken (a .part .now) (a .n) (a .table .now) (c .copy-values .last .1 .1 .0)
+    (sym (taken .enum-told .given .1) ∙ order)
+    (c .copy-values .ensures)
 
 pub take-references-spec : {M : Type 1} → statement M
 take-references-spec =

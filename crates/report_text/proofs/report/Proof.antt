@@ -1,5 +1,5 @@
 -- `report_text::report`: what the reader's answer tells picks the report that the definition has.
-use Rattle.file_theory.specs.Callers.{accepted-says, accepted-ready, refused-says}
+use Rattle.file_theory.specs.Callers.{accepted-says, accepted-handed, refused-says}
 use Rattle.report_theory.specs.Outcomes.{report-refused, report-accepted}
 use Rattle.report_theory.specs.Buffer.{printed}
 use borrow.Author.Needs.{needs}
@@ -12,30 +12,36 @@ read-requires c κs = search needs
 enum-known-reading : tie.Need-enum-known-reading
 enum-known-reading c = search needs
 
-put-refused-requires : tie.Need-put-refused-requires
-put-refused-requires c κs = search needs
+write-refused-requires : tie.Need-write-refused-requires
+write-refused-requires c κs = search needs
 
 enum-known-reading-2 : tie.Need-enum-known-reading-2
 enum-known-reading-2 c = search needs
 
-put-accepted-requires : tie.Need-put-accepted-requires
-put-accepted-requires c κs =
-    let called = c .before .before .before .before .before .before in
-    accepted-ready (called .before .before .before .before .args .file .now) (called .read .ensures) _ (c .before .before .before .before .reading2 .given .1)
+write-accepted-requires : tie.Need-write-accepted-requires
+write-accepted-requires c κs =
+    let taken = c .before .before .before .before in
+    let called = taken .before .before in
+    let start = called .before .before .before .before in
+    accepted-handed (start .args .file .now) (called .read .ensures) _ (taken .reading2 .given .1)
 
 returns : tie.Need-returns
 returns c =
-    let called = c .before .before .before .before .before in
-    let file = called .before .before .before .before .args .file .now in
-    let told = refused-says file (called .read .ensures) _ (c .before .before .before .reading .given .1) in
-    rw (report-refused file _ told) (printed (c .put-refused .ensures))
+    let taken = c .before .before .before in
+    let called = taken .before .before in
+    let start = called .before .before .before .before in
+    let file = start .args .file .now in
+    let told = refused-says file (called .read .ensures) _ (taken .reading .given .1) in
+    rw (report-refused file _ told) (printed (c .write-refused .ensures))
 
 returns-2 : tie.Need-returns-2
 returns-2 c =
-    let called = c .before .before .before .before .before .before .before in
-    let file = called .before .before .before .before .args .file .now in
-    let told = accepted-says file (called .read .ensures) _ (c .before .before .before .before .before .reading2 .given .1) in
-    rw (report-accepted file _ told) (printed (c .put-accepted .ensures))
+    let taken = c .before .before .before .before .before in
+    let called = taken .before .before in
+    let start = called .before .before .before .before in
+    let file = start .args .file .now in
+    let told = accepted-says file (called .read .ensures) _ (taken .reading2 .given .1) in
+    rw (report-accepted file _ told) (printed (c .write-accepted .ensures))
 
 pub report-spec : {M : Type 1} → statement M
 report-spec =
@@ -43,8 +49,8 @@ report-spec =
     (tie.spec
     read-requires
     enum-known-reading
-    put-refused-requires
+    write-refused-requires
     enum-known-reading-2
-    put-accepted-requires
+    write-accepted-requires
     returns
     returns-2)

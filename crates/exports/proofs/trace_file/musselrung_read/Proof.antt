@@ -16,18 +16,26 @@ element-write-counts c = search needs
 element-write-counts-2 : tie.Need-element-write-counts-2
 element-write-counts-2 c = search needs
 
+in-numbers-requires : tie.Need-in-numbers-requires
+in-numbers-requires c κs = search needs
+
 enum-known-reading-2 : tie.Need-enum-known-reading-2
 enum-known-reading-2 c = search needs
 
+in-numbers-requires-2 : tie.Need-in-numbers-requires-2
+in-numbers-requires-2 c κs = search needs
+
 returns : tie.Need-returns
 returns c =
-    let known = c .before .reading .given in
-    accepted _ (known .0 .0) (c .before .before .before .read .ensures) (known .1)
+    let taken = c .before .before in
+    let known = taken .reading .given in
+    accepted _ (known .0 .0) (taken .before .before .read .ensures) (known .1) (c .in-numbers .ensures)
 
 returns-2 : tie.Need-returns-2
 returns-2 c =
-    let known = c .before .reading2 .given in
-    refused _ (known .0 .0) (c .before .before .before .read .ensures) (known .1)
+    let taken = c .before .before in
+    let known = taken .reading2 .given in
+    refused _ (known .0 .0) (taken .before .before .read .ensures) (known .1) (c .in-numbers2 .ensures)
 
 pub musselrung-read-spec : {M : Type 1} → statement M
 musselrung-read-spec =
@@ -37,6 +45,8 @@ musselrung-read-spec =
     enum-known-reading
     element-write-counts
     element-write-counts-2
+    in-numbers-requires
     enum-known-reading-2
+    in-numbers-requires-2
     returns
     returns-2)

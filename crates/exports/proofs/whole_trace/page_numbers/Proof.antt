@@ -3,15 +3,16 @@ use Prim.Native.Nat.{_-_, _≤_}
 use mathlib.Core.Path.{_≡_}
 use native.Mathlib.Omega.{arith}
 use borrow.Author.Needs.{needs}
+use Rattle.rules.specs.Limits.{capacities}
 use Rattle.exports.proofs.Pages.{numbersOf, numbers-start, numbers-next, numbers-end}
 use Rattle.exports.proofs.whole_trace.page_numbers.Statement.{statement}
 use Rattle.exports.proofs.whole_trace.page_numbers.Tie as tie
 
 abbrev Inv-loop : tie.InvT-loop
-Inv-loop shown numbers₀ i₀ numbers i = (numbers ≡ numbersOf shown i) × (i ≤ 64)
+Inv-loop shown numbers₀ i₀ numbers i = (numbers ≡ numbersOf shown i) × (i ≤ capacities)
 
 abbrev μ-loop : tie.MeasureT-loop
-μ-loop shown numbers₀ i₀ numbers i = 64 - i
+μ-loop shown numbers₀ i₀ numbers i = capacities - i
 
 loop-holds : tie.Need-loop-holds Inv-loop μ-loop
 loop-holds c = (numbers-start (c .args .t1) (c .good .0 .1 .0 .1), omega arith)
@@ -38,12 +39,17 @@ loop-again : tie.Need-loop-again Inv-loop μ-loop
 loop-again c =
     let at-loop = c .before .before in
     let start = at-loop .before in
-    (numbers-next (start .args .t1) (start .good .0 .1 .0 .1) (record { 0 = 0 }) (at-loop .loop .i) (at-loop .loop .numbers) (omega arith) (at-loop .loop .inv .0), omega arith)
+    let turn = at-loop .loop in (
+      numbers-next (start .args .t1) (start .good .0 .1 .0 .1) (record { 0 = 0 }) (turn .i) (turn .numbers) (omega arith)
+          (turn .inv .0),
+      omega arith,
+    )
 
 returns : tie.Need-returns Inv-loop μ-loop
 returns c =
     let start = c .before .before in
-    numbers-end (start .args .t1) (start .good .0 .1 .0 .1) (c .before .loop .i) (c .before .loop .numbers) (omega arith) (omega arith) (c .before .loop .inv .0)
+    let turn = c .before .loop in
+    numbers-end (start .args .t1) (start .good .0 .1 .0 .1) (turn .i) (turn .numbers) (omega arith) (omega arith) (turn .inv .0)
 
 pub page-numbers-spec : {M : Type 1} → statement M
 page-numbers-spec =

@@ -11,13 +11,16 @@ use Rattle.file.proofs.scan.copy_values.Statement.{statement}
 use Rattle.file.proofs.scan.copy_values.Tie as tie
 
 abbrev Inv-loop : tie.InvT-loop
-Inv-loop bytes n table₀ i₀ table i = (i ≤ n) × (table ≡ numbers i (drop 2 bytes) ++ drop i table₀) × (length table ≡ length table₀)
+Inv-loop bytes n table₀ i₀ table i =
+    (i ≤ n) × (table ≡ numbers i (drop 2 bytes) ++ drop i table₀) × (length table ≡ length table₀)
 
 abbrev μ-loop : tie.MeasureT-loop
 μ-loop bytes n table₀ i₀ table i = n - i
 
 loop-holds : tie.Need-loop-holds Inv-loop μ-loop
-loop-holds c = (omega arith, copied-none (c .before .before .args .bytes .now) (c .before .before .args .table .now), refl)
+loop-holds c =
+    let a = c .before .before .args in
+    (omega arith, copied-none (a .bytes .now) (a .table .now), refl)
 
 mul-number-at : tie.Need-mul-number-at Inv-loop μ-loop
 mul-number-at c = omega arith
@@ -57,9 +60,10 @@ same-length c = c .before .loop .inv .2
 
 returns : tie.Need-returns Inv-loop μ-loop
 returns c =
-    let a = c .before .before .before .before .args in
-    let done : c .before .loop .i ≡ a .n = omega arith in
-    c .before .loop .inv .1 ∙ rw done (copied-all (a .bytes .now) (a .table .now) (a .n))
+    let at-end = c .before in
+    let a = at-end .before .before .before .args in
+    let done : at-end .loop .i ≡ a .n = omega arith in
+    at-end .loop .inv .1 ∙ rw done (copied-all (a .bytes .now) (a .table .now) (a .n))
 
 pub copy-values-spec : {M : Type 1} → statement M
 copy-values-spec =

@@ -1,18 +1,17 @@
--- `scan::first_bad_page`: while no page was bad, the scan of all values says what the scan of the rest says.
+-- `scan::first_bad_page`: while no page was bad, the first bad page of all values is that of the rest.
 use Prim.Native.Nat.{_≤_, _-_}
 use mathlib.Core.Path.{_≡_, refl, sym, _∙_}
 use native.Mathlib.Omega.{arith}
 use borrow.Author.Needs.{needs}
 use lib.ListN.{drop}
-use Rattle.rules.specs.Refusals.{firstBadPage}
-use Rattle.rules.specs.declared.Answer.the-variants.{Accepted}
+use Rattle.rules.specs.FirstBad.{firstBad}
 use Rattle.file_theory.specs.Format.{sectionValues}
-use Rattle.file_theory.specs.Scans.{bad-page, good-page, no-value}
+use Rattle.file_theory.specs.Scans.{bad-page, good-page, found-bad, none-bad}
 use Rattle.file.proofs.scan.first_bad_page.Statement.{statement}
 use Rattle.file.proofs.scan.first_bad_page.Tie as tie
 
 abbrev Inv-loop : tie.InvT-loop
-Inv-loop bytes n i₀ i = (i ≤ n) × (firstBadPage 0 (sectionValues n bytes) Accepted ≡ firstBadPage i (drop i (sectionValues n bytes)) Accepted)
+Inv-loop bytes n i₀ i = (i ≤ n) × (firstBad 0 (sectionValues n bytes) ≡ firstBad i (drop i (sectionValues n bytes)))
 
 abbrev μ-loop : tie.MeasureT-loop
 μ-loop bytes n i₀ i = n - i
@@ -34,10 +33,14 @@ refuse-requires c κs = search needs
 
 returns : tie.Need-returns Inv-loop μ-loop
 returns c =
-    let at-loop = c .before .before .before .before in
+    let read = c .before .before in
+    let turn = read .before in
+    let at-loop = turn .before in
     let a = at-loop .before .before .args in
-    c .refuse .ensures
-    ∙ sym (at-loop .loop .inv .1 ∙ bad-page (a .n) (a .bytes .now) (at-loop .loop .i) (c .before .before .number-at .result) (c .before .before .before .loop-test .taken) (c .before .before .number-at .ensures) (omega arith))
+    let i = at-loop .loop .i in
+    let more = turn .loop-test .taken in
+    let bad = bad-page (a .n) (a .bytes .now) i (read .number-at .result) more (read .number-at .ensures) (omega arith) in
+    c .refuse .ensures ∙ sym (found-bad (a .n) (a .bytes .now) i more (at-loop .loop .inv .1 ∙ bad))
 
 add-i : tie.Need-add-i Inv-loop μ-loop
 add-i c = omega arith
@@ -47,18 +50,20 @@ loop-less c = omega arith
 
 loop-again : tie.Need-loop-again Inv-loop μ-loop
 loop-again c =
-    let at-loop = c .before .before .before in
-    let a = at-loop .before .before .args in (
-      omega arith,
-      at-loop .loop .inv .1 ∙ good-page (a .n) (a .bytes .now) (at-loop .loop .i) (c .before .number-at .result) (c .before .before .loop-test .taken) (c .before .number-at .ensures) (omega arith),
-    )
+    let read = c .before in
+    let turn = read .before in
+    let at-loop = turn .before in
+    let a = at-loop .before .before .args in
+    let i = at-loop .loop .i in
+    let more = turn .loop-test .taken in
+    let good = good-page (a .n) (a .bytes .now) i (read .number-at .result) more (read .number-at .ensures) (omega arith) in
+    (omega arith, at-loop .loop .inv .1 ∙ good)
 
 returns-2 : tie.Need-returns-2 Inv-loop μ-loop
-unfolding firstBadPage
 returns-2 c =
-    let a = c .before .before .before .args in
-    let none = no-value (a .n) (a .bytes .now) (c .before .loop .i) (omega arith) (omega arith) in
-    sym (c .before .loop .inv .1 ∙ rw none)
+    let at-end = c .before in
+    let a = at-end .before .before .args in
+    sym (none-bad (a .n) (a .bytes .now) (at-end .loop .i) (omega arith) (at-end .loop .inv .1))
 
 pub first-bad-page-spec : {M : Type 1} → statement M
 first-bad-page-spec =

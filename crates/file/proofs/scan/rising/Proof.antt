@@ -11,7 +11,8 @@ use Rattle.file.proofs.scan.rising.Statement.{statement}
 use Rattle.file.proofs.scan.rising.Tie as tie
 
 abbrev Inv-loop : tie.InvT-loop
-Inv-loop bytes n before₀ i₀ before i = (i ≤ n) × (risingOf 0 (sectionValues n bytes) ≡ risingOf before (drop i (sectionValues n bytes)))
+Inv-loop bytes n before₀ i₀ before i =
+    (i ≤ n) × (risingOf 0 (sectionValues n bytes) ≡ risingOf before (drop i (sectionValues n bytes)))
 
 abbrev μ-loop : tie.MeasureT-loop
 μ-loop bytes n before₀ i₀ before i = n - i
@@ -33,15 +34,27 @@ cast-c c = search needs
 
 returns : tie.Need-returns Inv-loop μ-loop
 returns c =
-    let at-loop = c .before .before .before in
+    let read = c .before in
+    let turn = read .before in
+    let at-loop = turn .before in
     let a = at-loop .before .before .args in
-    sym (at-loop .loop .inv .1 ∙ not-above (a .n) (a .bytes .now) (at-loop .loop .i) (at-loop .loop .before) (c .before .number-at .result) (c .before .before .loop-test .taken) (c .before .number-at .ensures) (omega arith))
+    sym (at-loop .loop .inv .1
+    ∙ not-above (a .n) (a .bytes .now) (at-loop .loop .i) (at-loop .loop .before) (read .number-at .result)
+    (turn .loop-test .taken)
+    (read .number-at .ensures)
+    (omega arith))
 
 returns-2 : tie.Need-returns-2 Inv-loop μ-loop
 returns-2 c =
-    let at-loop = c .before .before .before .before in
+    let read = c .before .before in
+    let turn = read .before in
+    let at-loop = turn .before in
     let a = at-loop .before .before .args in
-    sym (at-loop .loop .inv .1 ∙ above-limit (a .n) (a .bytes .now) (at-loop .loop .i) (at-loop .loop .before) (c .before .before .number-at .result) (c .before .before .before .loop-test .taken) (c .before .before .number-at .ensures) (omega arith))
+    sym (at-loop .loop .inv .1
+    ∙ above-limit (a .n) (a .bytes .now) (at-loop .loop .i) (at-loop .loop .before) (read .number-at .result)
+    (turn .loop-test .taken)
+    (read .number-at .ensures)
+    (omega arith))
 
 add-i : tie.Need-add-i Inv-loop μ-loop
 add-i c = omega arith
@@ -51,10 +64,17 @@ loop-less c = omega arith
 
 loop-again : tie.Need-loop-again Inv-loop μ-loop
 loop-again c =
-    let at-loop = c .before .before .before .before in
+    let read = c .before .before in
+    let turn = read .before in
+    let at-loop = turn .before in
     let a = at-loop .before .before .args in (
       omega arith,
-      at-loop .loop .inv .1 ∙ risen (a .n) (a .bytes .now) (at-loop .loop .i) (at-loop .loop .before) (c .before .before .number-at .result) (c .before .before .before .loop-test .taken) (c .before .before .number-at .ensures) (omega arith) (omega arith),
+      at-loop .loop .inv .1
+          ∙ risen (a .n) (a .bytes .now) (at-loop .loop .i) (at-loop .loop .before) (read .number-at .result)
+          (turn .loop-test .taken)
+          (read .number-at .ensures)
+          (omega arith)
+          (omega arith),
     )
 
 returns-3 : tie.Need-returns-3 Inv-loop μ-loop

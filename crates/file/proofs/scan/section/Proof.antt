@@ -17,8 +17,10 @@ cast-n c = search needs
 
 returns-2 : tie.Need-returns-2
 returns-2 c =
-    let a = c .before .before .before .before .args in
-    is-over (a .limit) (a .bytes .now) (c .before .number-at .result) (c .before .before .if1 .left) (c .before .number-at .ensures) (omega arith)
+    let counted = c .before in
+    let long = counted .before in
+    let a = long .before .before .args in
+    is-over (a .limit) (a .bytes .now) (counted .number-at .result) (long .if1 .left) (counted .number-at .ensures) (omega arith)
 
 mul-if3 : tie.Need-mul-if3
 mul-if3 c = search needs
@@ -28,13 +30,21 @@ add-if3 c = search needs
 
 returns-3 : tie.Need-returns-3
 returns-3 c =
-    let a = c .before .before .before .before .before .args in
-    is-cut (a .limit) (a .bytes .now) (c .before .before .number-at .result) (c .before .before .before .if1 .left) (c .before .before .number-at .ensures) (omega arith) (omega arith)
+    let counted = c .before .before in
+    let long = counted .before in
+    let a = long .before .before .args in
+    is-cut (a .limit) (a .bytes .now) (counted .number-at .result) (long .if1 .left) (counted .number-at .ensures)
+    (omega arith)
+    (omega arith)
 
 returns-4 : tie.Need-returns-4
 returns-4 c =
-    let a = c .before .before .before .before .before .args in
-    is-whole (a .limit) (a .bytes .now) (c .before .before .number-at .result) (c .before .before .before .if1 .left) (c .before .before .number-at .ensures) (omega arith) (omega arith)
+    let counted = c .before .before in
+    let long = counted .before in
+    let a = long .before .before .args in
+    is-whole (a .limit) (a .bytes .now) (counted .number-at .result) (long .if1 .left) (counted .number-at .ensures)
+    (omega arith)
+    (omega arith)
 
 pub section-spec : {M : Type 1} → statement M
 section-spec =
