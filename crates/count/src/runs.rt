@@ -48,17 +48,16 @@ fn follow(
     let mut i = 0;
     while i < t {
         let next = next_at(nexts, i);
-        let s = step::refer(
+        step::refer(
             policy,
             trace[i],
             next,
-            length,
+            &mut length,
             k,
             &mut list,
             &mut depths,
             ranks,
         );
-        length = s.length;
         i += 1;
     }
     Run {

@@ -130,15 +130,16 @@ pub fn refer(
             session: s,
         };
     }
-    let step = step::refer(s.policy, p, 0, s.length, s.k, places, depths, counts);
+    let mut length = s.length;
+    let depth = step::refer(s.policy, p, 0, &mut length, s.k, places, depths, counts);
     let next = Session {
         policy: s.policy,
         k: s.k,
-        length: step.length,
+        length,
         references: s.references + 1,
     };
     Referenced {
-        depth: Depth::Accepted(step.depth),
+        depth: Depth::Accepted(depth),
         session: next,
     }
 }

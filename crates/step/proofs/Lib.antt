@@ -1,4 +1,4 @@
-pub mod ListedLaws
+pub mod ReferredLaws
 pub mod Walk
 pub mod FirstPlace
 pub mod Settling

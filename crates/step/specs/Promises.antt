@@ -9,12 +9,12 @@ pub referred-once : {policy page next n k : ℕ} {places depths ranks p₁ d₁ 
     → Referred policy page next n k places depths ranks p₁ d₁ r₁ a → Referred policy page next n k places depths ranks p₂ d₂ r₂ b
     → (a ≡ b) × (p₁ ≡ p₂) × (d₁ ≡ d₂) × (r₁ ≡ r₂)
 referred-once {depths = depths} x y =
-    let one = x .listed .stepped in
-    let two = y .listed .stepped in
+    let one = x .tallied .stepped in
+    let two = y .tallied .stepped in
     let depth = one .depth-is ∙ sym (two .depth-is) in
     let length = one .length-is ∙ sym (two .length-is) in (
       λ i. record { depth = depth i; length = length i },
       one .places ∙ sym (two .places),
-      x .depths-are ∙ ap (λ (d : ℕ). depthsThen d depths) depth ∙ sym (y .depths-are),
-      x .listed .ranks-are ∙ sym (y .listed .ranks-are),
+      x .tallied .depths-are ∙ ap (λ (d : ℕ). depthsThen d depths) depth ∙ sym (y .tallied .depths-are),
+      x .ranks-are ∙ sym (y .ranks-are),
     )

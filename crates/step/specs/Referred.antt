@@ -7,7 +7,8 @@ use mathlib.Core.List.{List}
 use lib.Dec.{eqb, ltb}
 use lib.ListN.{getD, set}
 use Rattle.rules.specs.Limits.{capacities, pages, lru, lfu}
-use Rattle.kept.specs.Entries.{entry}
+use Rattle.theory.specs.Priority.{Priority}
+use Rattle.kept.specs.Entries.{entry, larger}
 use Rattle.kept.specs.Rankings.{shownOf}
 use Rattle.step.specs.declared.Step.{Step}
 use Rattle.step.specs.Stepped.{Stepped}
@@ -45,13 +46,19 @@ ranksThen policy page next ranks =
 unfoldable pub depthsThen : ℕ → List ℕ → List ℕ
 depthsThen d depths = cond (ltb d (suc capacities)) (set depths d (min (getD depths d 0 + 1) largestCount)) depths
 
--- the list and the ranks
-pub record Listed (policy page next n k : ℕ) (places ranks places′ ranks′ : List ℕ) (r : Step) : Type 0 where
-  pub stepped : Stepped (shownOf policy) k (entry (λ p. rankBefore policy page ranks) page)
-      (entry (λ p. rankThen policy page next ranks) page) n places places′ r
-  pub ranks-are : ranks′ ≡ ranksThen policy page next ranks
-
--- and the depths
-pub record Referred (policy page next n k : ℕ) (places depths ranks places′ depths′ ranks′ : List ℕ) (r : Step) : Type 0 where
-  pub listed : Listed policy page next n k places ranks places′ ranks′ r
+-- a step in a list, and its depth counted
+pub record Tallied (above : Priority) (k old new n : ℕ) (places depths places′ depths′ : List ℕ) (r : Step) : Type 0 where
+  pub stepped : Stepped above k old new n places places′ r
   pub depths-are : depths′ ≡ depthsThen (r .depth) depths
+
+-- under the policies that keep ranks
+pub record Ranked (policy page next n k : ℕ) (places depths ranks places′ depths′ ranks′ : List ℕ) (r : Step) : Type 0 where
+  pub tallied : Tallied larger k (entry (λ p. rankIn ranks page) page)
+      (entry (λ p. nextRank policy (rankIn ranks page) next) page) n places depths places′ depths′ r
+  pub ranks-are : ranks′ ≡ rankStored page (nextRank policy (rankIn ranks page) next) ranks
+
+-- under every policy
+pub record Referred (policy page next n k : ℕ) (places depths ranks places′ depths′ ranks′ : List ℕ) (r : Step) : Type 0 where
+  pub tallied : Tallied (shownOf policy) k (entry (λ p. rankBefore policy page ranks) page)
+      (entry (λ p. rankThen policy page next ranks) page) n places depths places′ depths′ r
+  pub ranks-are : ranks′ ≡ ranksThen policy page next ranks

@@ -120,7 +120,7 @@ module _ {policy k : ℕ} (low : 1 ≤ k) (high : k ≤ capacities) {page next n
         ← rank-before policy page past to fine good ahead,
         ← rank-then policy page past to fine good ahead few next looks,
         ← run .ranks-are,
-      ) (done .listed .stepped)
+      ) (done .tallied .stepped)
 
   -- the depth that is answered is the depth in the list
   pub run-depth : s .depth ≡ depth page (listAfter (policyOf policy) k past (page ∷ to))
@@ -143,10 +143,10 @@ module _ {policy k : ℕ} (low : 1 ≤ k) (high : k ≤ capacities) {page next n
         length-is = length-after policy k low high page past to small (fits past good) stepped;
         places-are = places-after policy k low high page past to small (fits past good) stepped;
         depths-are =
-            done .depths-are ∙ rw (run .depths-are, depths-after policy k (s .depth) past (page ∷ to) shallow few)
+            done .tallied .depths-are ∙ rw (run .depths-are, depths-after policy k (s .depth) past (page ∷ to) shallow few)
             (unfold depthsAfter tally in rw run-depth);
         ranks-are =
-            done .listed .ranks-are ∙ rw (run .ranks-are) (ranks-then policy page past to fine good ahead few next looks);
+            done .ranks-are ∙ rw (run .ranks-are) (ranks-then policy page past to fine good ahead few next looks);
       }
 
 -- the list of a run is shown; this asks of the memory only what it looks at

@@ -2,7 +2,8 @@
 // any memory and any numbers, so nobody has to have checked them.
 ghost use Prim.Native.Nat.{_+_, min};
 ghost use mathlib.Core.Path.{_≡_};
-ghost use Rattle.step.specs.Referred.{rankIn, rankStored, nextRank, largestRank, Listed, Referred};
+ghost use Rattle.kept.specs.Entries.{entry as «entry-of», always};
+ghost use Rattle.step.specs.Referred.{rankIn, rankStored, nextRank, largestRank, Tallied, Ranked, Referred};
 use crate::DEPTHS;
 use crate::Step;
 use crate::depths::count_depth;
@@ -55,34 +56,24 @@ fn more(rank: u16) -> u16
     LARGEST_RANK
 }
 
-// LRU shifts; LFU and OPT place the page by its rank.
-fn step_list(
-    policy: u8,
+// Under LRU the list shifts, and no rank is kept.
+fn refer_unranked(
     page: u16,
-    next: u16,
     n: usize,
     k: usize,
     places: &mut [u32; CAPACITIES],
-    ranks: &mut [u16; PAGES as usize],
+    depths: &mut [u32; DEPTHS],
 ) -> Step
-    ensures { λ r. ⌜ Listed policy page next n k
-        (now (places .entry)) (now (ranks .entry))
-        (now (places .exit)) (now (ranks .exit)) r ⌝ }
+    ensures { λ r. ⌜ Tallied always k («entry-of» (λ p. 0) page) («entry-of» (λ p. 0) page) n
+        (now (places .entry)) (now (depths .entry)) (now (places .exit)) (now (depths .exit)) r ⌝ }
 {
-    if policy == LRU {
-        let unranked = entry(0, page);
-        return shift(places, n, k, unranked);
-    }
-    let rank = rank_of(ranks, page);
-    let then = next_rank(policy, rank, next);
-    keep_rank(ranks, page, then);
-    let old = entry(rank, page);
-    let new = entry(then, page);
-    place(places, n, k, old, new)
+    let s = shift(places, n, k, entry(0, page));
+    count_depth(depths, s.depth);
+    s
 }
 
-// A reference to a page, in a list of `n` places that may grow to `k`: its depth is counted, and its rank is kept.
-pub fn refer(
+// Under LFU and OPT the page is placed by its rank.
+fn refer_ranked(
     policy: u8,
     page: u16,
     next: u16,
@@ -92,12 +83,44 @@ pub fn refer(
     depths: &mut [u32; DEPTHS],
     ranks: &mut [u16; PAGES as usize],
 ) -> Step
-    ensures { λ r. ⌜ Referred policy page next n k
+    ensures { λ r. ⌜ Ranked policy page next n k
         (now (places .entry)) (now (depths .entry)) (now (ranks .entry))
         (now (places .exit)) (now (depths .exit)) (now (ranks .exit)) r ⌝ }
 {
-    let s = step_list(policy, page, next, n, k, places, ranks);
-    let depth = s.depth;
-    count_depth(depths, depth);
+    let rank = rank_of(ranks, page);
+    let then = next_rank(policy, rank, next);
+    keep_rank(ranks, page, then);
+    let old = entry(rank, page);
+    let new = entry(then, page);
+    let s = place(places, n, k, old, new);
+    count_depth(depths, s.depth);
     s
+}
+
+// A reference to a page, in a list of `n` places that may grow to `k`: the answer is its depth, which is counted, and its rank is kept.
+// The two kinds of policy share no code after the test, and the length is lent: a call then costs a few instructions where a struct of
+// two numbers would go through memory.
+pub fn refer(
+    policy: u8,
+    page: u16,
+    next: u16,
+    n: &mut usize,
+    k: usize,
+    places: &mut [u32; CAPACITIES],
+    depths: &mut [u32; DEPTHS],
+    ranks: &mut [u16; PAGES as usize],
+) -> usize
+    ensures { λ r. ⌜ Referred policy page next (now (n .entry)) k
+        (now (places .entry)) (now (depths .entry)) (now (ranks .entry))
+        (now (places .exit)) (now (depths .exit)) (now (ranks .exit)) (record { depth = r; length = now (n .exit) }) ⌝ }
+{
+    let used = *n;
+    if policy == LRU {
+        let s = refer_unranked(page, used, k, places, depths);
+        *n = s.length;
+        return s.depth;
+    }
+    let s = refer_ranked(policy, page, next, used, k, places, depths, ranks);
+    *n = s.length;
+    s.depth
 }

@@ -13,13 +13,13 @@ returns-2 c = refer-bad (c .before .if1 .left) (c .if2 .taken)
 refer-requires : tie.Need-refer-requires
 refer-requires c κs = search needs
 
-add-t17 : tie.Need-add-t17
-add-t17 c = search needs
+add-t20 : tie.Need-add-t20
+add-t20 c = search needs
 
 returns-3 : tie.Need-returns-3
 returns-3 c =
-    let checked = c .before .before .before .before .before .before in
-    refer-done (checked .if1 .left) (c .before .before .before .before .before .if2 .left) (c .before .refer .ensures)
+    let paged = c .before .before .before .before .before .before in
+    refer-done (paged .before .if1 .left) (paged .if2 .left) (c .before .refer .ensures)
 
 pub refer-spec : {M : Type 1} → statement M
-refer-spec = tie.close (tie.spec returns returns-2 refer-requires add-t17 returns-3)
+refer-spec = tie.close (tie.spec returns returns-2 refer-requires add-t20 returns-3)

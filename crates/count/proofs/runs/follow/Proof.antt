@@ -39,9 +39,9 @@ loop-less c = search needs
 
 loop-again : tie.Need-loop-again Inv-loop μ-loop
 loop-again c =
-    let looped = c .before .before .before .before .before .before .before in (
+    let looped = c .before .before .before .before .before .before .before .before in (
       run-next (looped .before .before .before .pre) (looped .loop .i) (looped .loop .inv .0) (omega arith)
-          (c .before .before .before .before .before .next-at .ensures) (c .refer .ensures),
+          (c .before .before .before .before .before .before .next-at .ensures) (c .refer .ensures),
       omega arith,
     )
 
