@@ -1,8 +1,8 @@
 -- A plain cache holds no page twice.
-use Prim.Native.Nat.{ℕ, zero, suc, _+_, _≤_, _<_}
+use Prim.Native.Nat.{ℕ, suc, _≤_}
 use native.Mathlib.Omega.{arith}
 use mathlib.Core.Bool.{Bool, true, false, cond}
-use mathlib.Core.Path.{_≡_, refl, sym, _∙_, ap}
+use mathlib.Core.Path.{_≡_, sym, _∙_, ap}
 use mathlib.Core.List.{List, [], _∷_}
 use lib.Dec.{eqb}
 use lib.ListN.{length}
@@ -29,9 +29,12 @@ refer-once : (p c x : ℕ) (above : Priority) (s : List ℕ) → times p s ≤ 1
 unfolding refer times
 refer-once p c x above s once =
     by-cases (holds x s) (λ h. rw h once)
-    (λ h. rw h (by-cases (eqb x p) (λ e. rw e (fresh (eqb-true x p e) (eqb (length s) c) (ltb-false 0 (times x s) (sym (holds-times x s) ∙ h))))
+    (λ h. rw h (by-cases (eqb x p) (λ e. rw e (fresh (eqb-true x p e) (eqb (length s) c) (none-yet h)))
     (λ e. rw e (kept (eqb (length s) c)))))
   where
+    none-yet : holds x s ≡ false → times x s ≤ 0
+    none-yet h = ltb-false 0 (times x s) (sym (holds-times x s) ∙ h)
+
     fresh : x ≡ p → (full : Bool) → times x s ≤ 0 → suc (times p (cond full (evict above s) s)) ≤ 1
     fresh e true none = omega (arith, times-evict p above s, ap (λ (q : ℕ). times q s) e)
     fresh e false none = omega (arith, ap (λ (q : ℕ). times q s) e)

@@ -1,7 +1,7 @@
 -- The three policies (rules Q1 to Q3): a rank for each page, more is higher; equal ranks: the smaller page number is higher.
 -- A run is seen from a moment in it: `past` has the references before it, latest first, and `to` those still to come.
 use Prim.Native.Nat.{ℕ, suc}
-use mathlib.Core.Bool.{Bool, true, false, cond}
+use mathlib.Core.Bool.{true, false, cond}
 use mathlib.Core.List.{List, [], _∷_}
 use lib.Dec.{ltb, eqb}
 use lib.ListN.{length}
@@ -17,8 +17,8 @@ unfoldable pub smaller : Priority
 smaller a b = ltb a b
 
 -- How many references there are from the first p in the list to the list's end; 0 if p is not there.
--- On `past` this is the moment of p's last reference; on `to` it is more the sooner p comes again. PolicyWords.antt says in words what
--- it makes of two pages.
+-- On `past` this is the moment of p's last reference; on `to` it is more the sooner p comes again. PolicyWords.antt says in
+-- words what it makes of two pages.
 unfoldable pub nearness : ℕ → List ℕ → ℕ
 nearness p [] = 0
 nearness p (z ∷ l) = cond (eqb z p) (suc (length l)) (nearness p l)
