@@ -2,10 +2,10 @@
 -- law then says what a reference does to the entries.
 use Prim.Native.Nat.{ℕ, zero, suc, _≤_, _<_}
 use native.Mathlib.Omega.{arith}
-use mathlib.Core.Path.{_≡_, refl, sym, _∙_, ap}
+use mathlib.Core.Path.{_≡_, refl}
 use mathlib.Core.List.{List, [], _∷_, map}
 use lib.Dec.{eqb}
-use lib.ListN.{length, take}
+use lib.ListN.{take}
 use lib.Seq.{take-all}
 use Rattle.rules.specs.Lists.{times}
 use Rattle.theory.specs.Priority.{Priority, Policy}
@@ -42,7 +42,8 @@ module _ (policy : Policy) (ranking : Ranking) (shown : Priority) (keeps : Keeps
 
   pub kept-step : (x : ℕ) (past to : List ℕ) → x < 65536 → Below 65536 past
       → kept ranking policy k (x ∷ past) to
-      ≡ take k (placeEntry shown (entry (ranking past (x ∷ to)) x) (entry (ranking (x ∷ past) to) x) (kept ranking policy k past (x ∷ to)))
+      ≡ take k
+      (placeEntry shown (entry (ranking past (x ∷ to)) x) (entry (ranking (x ∷ past) to) x) (kept ranking policy k past (x ∷ to)))
   unfolding kept listAfter step
   kept-step x past to hx hp =
       rw (

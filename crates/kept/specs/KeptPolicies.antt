@@ -1,22 +1,20 @@
 -- The lists of LRU, LFU and OPT can be kept as entries: LRU's by shifting, with no rank at all, the other two by comparing.
-use Prim.Native.Nat.{ℕ, zero, suc, _≤_, _<_}
-use native.Mathlib.Omega.{arith}
-use mathlib.Core.Bool.{Bool, true, false, cond}
-use mathlib.Core.Path.{_≡_, refl, sym, _∙_, ap}
+use Prim.Native.Nat.{ℕ, _<_}
+use mathlib.Core.Path.{_≡_, refl, sym, _∙_}
 use mathlib.Core.List.{List, [], _∷_}
 use lib.Dec.{eqb}
 use borrow.Author.Tests.{eqb-false, ne-eqb}
 use Rattle.rules.specs.Limits as limits
 use Rattle.rules.specs.Lists.{times}
-use Rattle.theory.specs.Priority.{Priority, Policy}
+use Rattle.theory.specs.Priority.{Priority}
 use Rattle.theory.specs.Policy.{byMore, smaller, nearness, lru, lfu, opt, policyOf}
 use Rattle.theory.specs.OnePass.{place, listAfter}
 use Rattle.theory.specs.Order.{lru-order, lfu-order, opt-order}
-use Rattle.kept.specs.Entries.{entry, larger, always}
+use Rattle.kept.specs.Entries.{larger, always}
 use Rattle.kept.specs.EntryLaws.{through, entry-above, carry-same}
 use Rattle.kept.specs.Below.{Below, list-below}
 use Rattle.kept.specs.Recency.{place-shift, list-sorted, nearness-other}
-use Rattle.kept.specs.Rankings.{Ranking, unranked, frequency, sooner, rankingOf, shownOf}
+use Rattle.kept.specs.Rankings.{unranked, frequency, sooner, rankingOf, shownOf}
 use Rattle.kept.specs.Kept.{Keeps}
 use Rattle.rules.specs.Cases.{by-cases}
 
@@ -44,7 +42,8 @@ keeps-lru =
     record {
       orders = lru-order;
       others = λ x past to p n. refl;
-      compared = λ k x past to hp. place-shift past (through (λ p. 0) always) (λ y z. refl) to x (listAfter lru k past (x ∷ to)) (list-sorted k past (x ∷ to));
+      compared = λ k x past to hp. place-shift past (through (λ p. 0) always) (λ y z. refl) to x
+          (listAfter lru k past (x ∷ to)) (list-sorted k past (x ∷ to));
     }
 
 pub keeps-lfu : Keeps lfu frequency larger
@@ -54,7 +53,8 @@ keeps-lfu =
       orders = lfu-order;
       others = λ x past to p n. times-other p x past n;
       compared = λ k x past to hp. place-same (lfu past to) (through (frequency past (x ∷ to)) larger) x
-          (λ y z ny nz hy hz. entry-above (λ p. times p past) y z hy hz) (listAfter lfu k past (x ∷ to)) (list-below 65536 lfu k past (x ∷ to) hp);
+          (λ y z ny nz hy hz. entry-above (λ p. times p past) y z hy hz)
+          (listAfter lfu k past (x ∷ to)) (list-below 65536 lfu k past (x ∷ to) hp);
     }
 
 pub keeps-opt : Keeps opt sooner larger

@@ -1,8 +1,8 @@
 -- Laws of what code keeps of a run: what stands behind a list in memory, and what the table of ranks says of a page.
 use Prim.Native.Nat.{ℕ, zero, suc, _+_, _-_, _≤_, _<_}
 use native.Mathlib.Omega.{arith}
-use mathlib.Core.Bool.{true, false, cond}
-use mathlib.Core.Path.{_≡_, refl, sym, _∙_, ap}
+use mathlib.Core.Bool.{true, false}
+use mathlib.Core.Path.{_≡_, _∙_, ap}
 use mathlib.Core.List.{List, [], _++_}
 use lib.Dec.{eqb}
 use lib.ListN.{length, take, drop, getD, replicate, length-append, length-replicate, length-map}
@@ -94,7 +94,10 @@ module _ (policy : ℕ) (back : policy < opt) (past to to′ : List ℕ) where
   pub places-past-only : (k : ℕ) → placesAfter policy k past to ≡ placesAfter policy k past to′
   unfolding placesAfter kept
   places-past-only k =
-      rw (ranking-past-only policy back past to to′, list-past-only (policyOf policy) (policy-past-only policy back) k past to to′)
+      rw (
+        ranking-past-only policy back past to to′,
+        list-past-only (policyOf policy) (policy-past-only policy back) k past to to′,
+      )
 
   pub depths-past-only : (k : ℕ) → depthsAfter policy k past to ≡ depthsAfter policy k past to′
   unfolding depthsAfter

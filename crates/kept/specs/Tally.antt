@@ -2,11 +2,11 @@
 use Prim.Native.Nat.{ℕ, zero, suc, _+_, _≤_, _<_}
 use native.Mathlib.Omega.{arith}
 use native.Mathlib.Numerals.{add-one}
-use mathlib.Core.Bool.{Bool, true, false, cond, _&&_}
-use mathlib.Core.Path.{_≡_, refl, sym, _∙_, ap}
+use mathlib.Core.Bool.{false}
+use mathlib.Core.Path.{_≡_, refl, sym, _∙_}
 use mathlib.Core.List.{List, [], _∷_}
 use lib.Dec.{eqb, leb, ltb}
-use lib.ListN.{length, getD, set, replicate, length-set, length-replicate, List·getD-eq-default}
+use lib.ListN.{length, getD, set, replicate, length-set, length-replicate}
 use lib.Seq.{getD-set-same, getD-set-other, set-out}
 use borrow.Author.Tests.{ltb-true, ltb-false, eqb-true, eqb-false, leb-true, leb-false, le-leb, lt-leb}
 use Rattle.rules.specs.Limits.{capacities}
@@ -43,7 +43,9 @@ bump-other d c table n = getD-set-other table d c (getD table d 0 + 1) 0 n
 pub tally-length : (policy : Policy) (k : ℕ) (past to : List ℕ) → length (tally policy k past to) ≡ suc capacities
 unfolding tally
 tally-length policy k [] to = length-replicate {A = ℕ} (suc capacities) 0
-tally-length policy k (x ∷ past) to = bump-length (depth x (listAfter policy k past (x ∷ to))) (tally policy k past (x ∷ to)) ∙ tally-length policy k past (x ∷ to)
+tally-length policy k (x ∷ past) to =
+    bump-length (depth x (listAfter policy k past (x ∷ to))) (tally policy k past (x ∷ to))
+    ∙ tally-length policy k past (x ∷ to)
 
 -- a depth that is not c + 1 is within c + 1 exactly if it is within c
 one-further : (d c : ℕ) → (suc c ≡ d → ⊥) → within d (suc c) ≡ within d c
@@ -66,7 +68,14 @@ upTo-bump d (suc c) table h =
     at-place : suc c ≡ d → upTo (bump d table) c ≡ upTo table c + one (within d c)
         → upTo (bump d table) c + getD (bump d table) (suc c) 0 ≡ upTo table c + getD table (suc c) 0 + one (within d (suc c))
     at-place e i =
-        rw (i, e, bump-same d table (omega arith), le-leb 1 d (omega arith), lt-leb d c (omega arith), le-leb d d (omega arith)) (omega arith)
+        rw (
+          i,
+          e,
+          bump-same d table (omega arith),
+          le-leb 1 d (omega arith),
+          lt-leb d c (omega arith),
+          le-leb d d (omega arith),
+        ) (omega arith)
 
     elsewhere : (suc c ≡ d → ⊥) → upTo (bump d table) c ≡ upTo table c + one (within d c)
         → upTo (bump d table) c + getD (bump d table) (suc c) 0 ≡ upTo table c + getD table (suc c) 0 + one (within d (suc c))
@@ -113,7 +122,8 @@ pub tally-most : (policy : Policy) (k d : ℕ) (past to : List ℕ) → getD (ta
 unfolding tally
 tally-most policy k d [] to = omega (arith, zeros-at (suc capacities) d)
 tally-most policy k d (x ∷ past) to =
-    omega (arith, bump-most (depth x (listAfter policy k past (x ∷ to))) d (tally policy k past (x ∷ to)), tally-most policy k d past (x ∷ to))
+    let found = depth x (listAfter policy k past (x ∷ to)) in
+    omega (arith, bump-most found d (tally policy k past (x ∷ to)), tally-most policy k d past (x ∷ to))
 
 pub upTo-step : (depths : List ℕ) (d : ℕ) → upTo depths (d + 1) ≡ upTo depths d + getD depths (d + 1) 0
 unfolding upTo
