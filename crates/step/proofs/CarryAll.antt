@@ -42,20 +42,26 @@ module _ (old : ℕ) where
   carry-on : (s y : ℕ) (l : List ℕ) → depthFrom (suc s) old l ≡ 0 → carry always old y l ≡ y ∷ l
   unfolding carry always depthFrom
   carry-on s y [] h = refl
-  carry-on s y (z ∷ l) h = by-cases (eqb z old) (λ e. absurd (omega (arith, rw e at h))) (λ e. rw (e, carry-on (suc s) z l (rw e at h)))
+  carry-on s y (z ∷ l) h =
+      by-cases (eqb z old) (λ e. absurd (omega (arith, rw e at h))) (λ e. rw (e, carry-on (suc s) z l (rw e at h)))
 
   pub carried-found : {first d : ℕ} {l after : List ℕ} → d ≡ depth old l → 0 < d
       → after ≡ first ∷ (take (d - 1) l ++ drop (d - 1 + 1) l)
       → Carrying always old first l after (record { depth = d; last = 0 })
   carried-found {first} {d} {l} {after} e p a =
-      let whole : carry always old first l ≡ first ∷ (take (d - 1) l ++ drop (suc (d - 1)) l) = carry-out 0 (d - 1) first l (sym e ∙ omega arith) in
+      let moved : List ℕ = first ∷ (take (d - 1) l ++ drop (suc (d - 1)) l) in
+      let whole : carry always old first l ≡ moved = carry-out 0 (d - 1) first l (sym e ∙ omega arith) in
       let most : d ≤ length l = omega (arith, e, depth-most 0 old l) in
-      let long : length (first ∷ (take (d - 1) l ++ drop (suc (d - 1)) l)) ≡ length l =
-      rw (length-append (take (d - 1) l) (drop (suc (d - 1)) l), length-take-le (d - 1) l (omega (arith, most)), length-drop (suc (d - 1)) l) (omega (arith, most)) in
+      let long : length moved ≡ length l =
+      rw (
+        length-append (take (d - 1) l) (drop (suc (d - 1)) l),
+        length-take-le (d - 1) l (omega (arith, most)),
+        length-drop (suc (d - 1)) l,
+      ) (omega (arith, most)) in
       record {
-        places = rw (a, whole, add-one, take-all (length l) (first ∷ (take (d - 1) l ++ drop (suc (d - 1)) l)) (omega (arith, long)));
+        places = rw (a, whole, add-one, take-all (length l) moved (omega (arith, long)));
         depth-is = e;
-        last-is = rw (whole, List·getD-eq-default (first ∷ (take (d - 1) l ++ drop (suc (d - 1)) l)) 0 {n = length l} (omega (arith, long)));
+        last-is = rw (whole, List·getD-eq-default moved 0 {n = length l} (omega (arith, long)));
       }
 
   pub carried-missing : {first : ℕ} {l after : List ℕ} → 0 ≡ depth old l → 0 < length l
@@ -65,7 +71,13 @@ module _ (old : ℕ) where
       let whole : carry always old first l ≡ first ∷ l = carry-on 0 first l (sym e) in
       let back : length l ≡ suc (length l - 1) = omega arith in
       record {
-        places = rw (a, whole, drop-of-length-le l {i = length l - 1 + 1} (omega arith), append-nil (take (length l - 1) l)) (cut back);
+        places =
+            rw (
+              a,
+              whole,
+              drop-of-length-le l {i = length l - 1 + 1} (omega arith),
+              append-nil (take (length l - 1) l),
+            ) (cut back);
         depth-is = e;
         last-is = rw whole (shown back);
       }

@@ -36,14 +36,22 @@ module _ {before : List ℕ} {to : ℕ} (h : to < length before) where
       let front : take (suc j) before ≡ take j before ++ (getD before j 0 ∷ []) = take-suc before j 0 j-in in
       let long : length (take (suc j) before) ≡ suc j = length-take-le (suc j) before (omega (arith, m .inside)) in
       let here : getD now j 0 ≡ getD before j 0 =
-      rw (m .list) (List·getD-append (take (suc j) before) (m .x ∷ rest) 0 j (omega (arith, long)) ∙ getD-take (suc j) before j 0 (omega arith)) in
+      rw (m .list)
+      (List·getD-append (take (suc j) before) (m .x ∷ rest) 0 j (omega (arith, long))
+      ∙ getD-take (suc j) before j 0 (omega arith)) in
       record {
         inside = omega (arith, m .inside);
         long = length-set now (suc j) (getD now j 0) ∙ m .long;
         x = getD before j 0;
         moved = getD before j 0 ∷ m .moved;
         list =
-            rw (here, m .list, set-at (take (suc j) before) (m .x) rest v (suc j) long, front, append-assoc (take j before) (v ∷ []) (v ∷ rest));
+            rw (
+              here,
+              m .list,
+              set-at (take (suc j) before) (m .x) rest v (suc j) long,
+              front,
+              append-assoc (take j before) (v ∷ []) (v ∷ rest),
+            );
         split = rw (m .split, front, append-assoc (take j before) (v ∷ []) (m .moved));
       }
 

@@ -16,7 +16,9 @@ use Rattle.step.specs.Shifting.{Free, free-of}
 pub block-next : (old from j : ℕ) (list : List ℕ) (found : Bool) → (found ≡ false → free-of old from j list)
     → found || eqb (getD list (from + j) 0) old ≡ false → free-of old from (j + 1) list
 block-next old from j list true f e = clash refl e
-block-next old from j list false f e = below-more (λ (k : ℕ). getD list (from + k) 0 ≡ old → ⊥) j (f refl) (λ q. clash (eq-eqb (getD list (from + j) 0) old q) e)
+block-next old from j list false f e =
+    below-more (λ (k : ℕ). getD list (from + k) 0 ≡ old → ⊥) j (f refl)
+    (λ q. clash (eq-eqb (getD list (from + j) 0) old q) e)
 
 -- places without the old entry
 module _ {old : ℕ} {list : List ℕ} where
@@ -33,7 +35,8 @@ module _ {old : ℕ} {list : List ℕ} where
       split : (k : ℕ) → k < i + n → getD list k 0 ≡ old → ⊥
       split k h e =
           by-cases (ltb k i) (λ y. f .none k (ltb-true k i y) e)
-          (λ y. let back : i + (k - i) ≡ k = omega (arith, ltb-false k i y) in b (k - i) (omega (arith, ltb-false k i y)) (rw back e))
+          (λ y. let back : i + (k - i) ≡ k = omega (arith, ltb-false k i y) in
+          b (k - i) (omega (arith, ltb-false k i y)) (rw back e))
 
   -- the first place that has it
   pub found-at : (i : ℕ) → Free old i list → i < length list → getD list i 0 ≡ old → i + 1 ≡ depth old list
@@ -45,7 +48,10 @@ module _ {old : ℕ} {list : List ℕ} where
       first-at s i [] n h e = absurd (omega arith)
       first-at s zero (z ∷ l) n h e = rw (eq-eqb z old e) (omega arith)
       first-at s (suc i) (z ∷ l) n h e =
-          rw (ne-eqb z old (n 0 (omega arith)), first-at (suc s) i l (λ k q. n (suc k) (omega arith)) (omega arith) e) (omega arith)
+          rw (
+            ne-eqb z old (n 0 (omega arith)),
+            first-at (suc s) i l (λ k q. n (suc k) (omega arith)) (omega arith) e,
+          ) (omega arith)
 
   -- no place has it
   pub found-nowhere : (i : ℕ) → Free old i list → length list ≤ i → 0 ≡ depth old list

@@ -1,16 +1,15 @@
 -- The part in use comes back, and what is left over is put behind it: together that is the whole step.
-use Prim.Native.Nat.{ℕ, zero, suc, _+_, _≤_, _<_, min, max}
+use Prim.Native.Nat.{ℕ, suc, _+_, _≤_, _<_, min, max}
 use native.Mathlib.Omega.{arith}
 use native.Mathlib.Numerals.{add-one}
-use mathlib.Core.Bool.{Bool, true, false, cond, _&&_}
+use mathlib.Core.Bool.{true, false}
 use mathlib.Core.Path.{_≡_, refl, sym, _∙_, ap}
 use mathlib.Core.List.{List, [], _∷_, _++_, append-assoc}
 use lib.Dec.{eqb, ltb, leb}
 use lib.ListN.{length, take, drop, getD, set, length-take, length-drop, length-append}
 use lib.Seq.{take-all, take-suc, drop-cons, set-at, length-take-le}
-use borrow.Author.Tests.{eq-eqb, ne-eqb, eqb-true, eqb-false, lt-ltb, le-ltb, ltb-true, ltb-false, leb-true, leb-false}
+use borrow.Author.Tests.{eq-eqb, ne-eqb, eqb-true, eqb-false, lt-ltb, ltb-true, ltb-false, leb-true, leb-false}
 use Rattle.theory.specs.Priority.{Priority}
-use Rattle.theory.specs.OnePass.{depth}
 use Rattle.rules.specs.Cases.{by-cases}
 use Rattle.kept.specs.Entries.{placeEntry}
 use Rattle.step.specs.declared.Carried.{Carried}
@@ -68,7 +67,10 @@ module _ (above : Priority) (k old new n : ℕ) (before places after : List ℕ)
   found d =
       let long : length P ≡ used = placeEntry-length above old new (take n before) (λ q. d (p .depth-is ∙ q)) ∙ used-is in
       kept (rw (ne-eqb (c .depth) 0 d)) (omega arith)
-      (rw (take-all (max (length (take n before)) (min k (length before))) P (omega (arith, used-is)), take-all used P (omega arith)))
+      (rw (
+        take-all (max (length (take n before)) (min k (length before))) P (omega (arith, used-is)),
+        take-all used P (omega arith),
+      ))
 
   module _ (d : c .depth ≡ 0) where
     longer : length P ≡ suc used
@@ -87,7 +89,13 @@ module _ (above : Priority) (k old new n : ℕ) (before places after : List ℕ)
 
     last-taken : places ++ (c .last ∷ []) ≡ P
     last-taken =
-        rw (places-are, p .last-is, used-is, ← take-suc P used 0 (omega (arith, longer)), take-all (suc used) P (omega (arith, longer)))
+        rw (
+          places-are,
+          p .last-is,
+          used-is,
+          ← take-suc P used 0 (omega (arith, longer)),
+          take-all (suc used) P (omega (arith, longer)),
+        )
 
     grown : used < k → used < length before → Stepped above k old new n before after r
     unfolding next

@@ -1,13 +1,12 @@
 -- The carrying loop over plain lists: what is written so far, followed by the carry of what is left, is the whole carry.
-use Prim.Native.Nat.{ℕ, zero, suc, _+_, _≤_, _<_}
+use Prim.Native.Nat.{ℕ, suc, _+_, _≤_, _<_}
 use native.Mathlib.Omega.{arith}
-use native.Mathlib.Nat.{add-zero}
 use native.Mathlib.Numerals.{add-one}
-use mathlib.Core.Bool.{Bool, true, false, cond}
-use mathlib.Core.Path.{_≡_, refl, sym, _∙_, ap}
+use mathlib.Core.Bool.{true, false}
+use mathlib.Core.Path.{_≡_, refl, sym, _∙_}
 use mathlib.Core.List.{List, [], _∷_, _++_, append-assoc, append-nil}
 use lib.Dec.{eqb}
-use lib.ListN.{length, take, drop, getD, set, length-append, length-take, length-drop, length-set, take-append-drop, List·getD-eq-default, drop-of-length-le}
+use lib.ListN.{length, drop, getD, set, length-append, length-drop, length-set, List·getD-eq-default, drop-of-length-le}
 use lib.Seq.{drop-cons, take-all, take-at, set-at, getD-at}
 use borrow.Author.Tests.{eq-eqb, ne-eqb}
 use Rattle.theory.specs.Priority.{Priority, higher, lower}
@@ -34,7 +33,12 @@ module _ {above : Priority} {old first : ℕ} {before : List ℕ} where
   module _ {carried i : ℕ} {now : List ℕ} (w : Walk above old first before carried i now) where
     module _ (h : i < length before) where
       here-is : getD now i 0 ≡ getD before i 0
-      here-is = rw (w .list, drop-cons before i 0 h, getD-at (w .done) (getD before i 0) (drop (suc i) before) 0 i (w .done-length))
+      here-is =
+          rw (
+            w .list,
+            drop-cons before i 0 h,
+            getD-at (w .done) (getD before i 0) (drop (suc i) before) 0 i (w .done-length),
+          )
 
       -- the old entry is not here: one entry stays, the other is carried on
       pub walk-next : (getD now i 0 ≡ old → ⊥)
@@ -74,6 +78,7 @@ module _ {above : Priority} {old first : ℕ} {before : List ℕ} where
           → Carrying above old first before (set now i carried) r
       unfolding carry depthFrom
       walk-found r e d l =
+          let all : List ℕ = w .done ++ (carried ∷ drop (suc i) before) in
           record {
             places =
                 rw (
@@ -81,10 +86,10 @@ module _ {above : Priority} {old first : ℕ} {before : List ℕ} where
                   drop-cons before i 0 h,
                   set-at (w .done) (getD before i 0) (drop (suc i) before) carried i (w .done-length),
                   found,
-                  take-all (length before) (w .done ++ (carried ∷ drop (suc i) before)) (omega (arith, full)),
+                  take-all (length before) all (omega (arith, full)),
                 );
             depth-is = rw (d, w .deeper, drop-cons before i 0 h, this, add-one);
-            last-is = rw (l, found, List·getD-eq-default (w .done ++ (carried ∷ drop (suc i) before)) 0 {n = length before} (omega (arith, full)));
+            last-is = rw (l, found, List·getD-eq-default all 0 {n = length before} (omega (arith, full)));
           }
         where
           this : eqb (getD before i 0) old ≡ true
@@ -94,14 +99,26 @@ module _ {above : Priority} {old first : ℕ} {before : List ℕ} where
           found = rw (w .whole, drop-cons before i 0 h, this)
 
           full : length (w .done ++ (carried ∷ drop (suc i) before)) ≡ length before
-          full = rw (length-append (w .done) (carried ∷ drop (suc i) before), w .done-length, length-drop (suc i) before) (omega arith)
+          full =
+              rw (
+                length-append (w .done) (carried ∷ drop (suc i) before),
+                w .done-length,
+                length-drop (suc i) before,
+              ) (omega arith)
 
     -- the end: the carried entry is left over
     pub walk-end : (r : Carried) → length before ≤ i → r .depth ≡ 0 → r .last ≡ carried → Carrying above old first before now r
     unfolding carry depthFrom
     walk-end r h d l =
         record {
-          places = rw (w .list, drop-of-length-le before h, append-nil (w .done), left, take-at (w .done) (carried ∷ []) (length before) full);
+          places =
+              rw (
+                w .list,
+                drop-of-length-le before h,
+                append-nil (w .done),
+                left,
+                take-at (w .done) (carried ∷ []) (length before) full,
+              );
           depth-is = rw (d, w .deeper, drop-of-length-le before h);
           last-is = rw (l, left, getD-at (w .done) carried [] 0 (length before) full);
         }

@@ -3,9 +3,8 @@
 use Prim.Native.Nat.{ℕ, suc, _+_, _≤_, _<_, min, max}
 use native.Mathlib.Omega.{arith}
 use mathlib.Core.Path.{_≡_, refl, sym, _∙_, ap}
-use mathlib.Core.List.{List, [], _∷_, _++_, map}
-use lib.Dec.{ltb}
-use lib.ListN.{length, take, drop, getD, set, replicate}
+use mathlib.Core.List.{List, [], _∷_, map}
+use lib.ListN.{length, take, getD, replicate}
 use borrow.Author.Tests.{lt-ltb}
 use Rattle.rules.specs.Limits.{capacities, references, pages}
 use Rattle.rules.specs.declared.Page.{Page}
@@ -25,7 +24,7 @@ use Rattle.kept.specs.Memory.{lengthAfter, padded, placesAfter, depthsAfter, ra
 use Rattle.kept.specs.MemoryLaws.{kept-length, length-most, padded-length, take-padded, padded-over}
 use Rattle.step.specs.declared.Step.{Step}
 use Rattle.step.specs.Stepped.{Stepped, next}
-use Rattle.step.specs.Referred.{depthsThen, largestCount, rankBefore, rankThen, Referred}
+use Rattle.step.specs.Referred.{depthsThen, largestCount, Referred}
 use Rattle.step.specs.RankLaws.{LooksAhead, rank-before, rank-then, ranks-then}
 use Rattle.step.specs.EntryLengths.{next-grows}
 use Rattle.step.specs.Shown.{shownPlaces, placesOf, shown-all}
@@ -67,10 +66,12 @@ module _ (policy k : ℕ) (low : 1 ≤ k) (high : k ≤ capacities) (page : ℕ)
   next-is : next (shownOf policy) k old new used (padded now-entries) ≡ then-entries
   unfolding next
   next-is =
-      let now-long : length now-entries ≤ k = omega (arith, kept-length (rankingOf policy) policy k past (page ∷ to), length-most policy k past (page ∷ to)) in
+      let now-long : length now-entries ≤ k =
+      omega (arith, kept-length (rankingOf policy) policy k past (page ∷ to), length-most policy k past (page ∷ to)) in
       let room : length (padded now-entries) ≡ capacities = padded-length now-entries (omega arith) in
       let cut : max (length now-entries) (min k (length (padded now-entries))) ≡ k = omega arith in
-      rw (in-use, cut) (sym (kept-step (policyOf policy) (rankingOf policy) (shownOf policy) (keeps policy) k low page past to fine good))
+      rw (in-use, cut)
+      (sym (kept-step (policyOf policy) (rankingOf policy) (shownOf policy) (keeps policy) k low page past to fine good))
 
   module _ {places′ : List ℕ} {s : Step} (stepped : Stepped (shownOf policy) k old new used (padded now-entries) places′ s) where
     pub depth-after : s .depth ≡ depth page (listAfter (policyOf policy) k past (page ∷ to))
@@ -97,7 +98,8 @@ depths-after : (policy k d : ℕ) (past to : List ℕ) → d ≤ capacities → 
     → depthsThen d (depthsAfter policy k past to) ≡ bump d (depthsAfter policy k past to)
 unfolding depthsThen bump depthsAfter
 depths-after policy k d past to h few =
-    let came : min (getD (tally (policyOf policy) k past to) d 0 + 1) largestCount ≡ getD (tally (policyOf policy) k past to) d 0 + 1 =
+    let table : List ℕ = tally (policyOf policy) k past to in
+    let came : min (getD table d 0 + 1) largestCount ≡ getD table d 0 + 1 =
     omega (arith, tally-most (policyOf policy) k d past to) in
     rw (lt-ltb d (suc capacities) (omega arith), came)
 
@@ -107,7 +109,8 @@ module _ {policy k : ℕ} (low : 1 ≤ k) (high : k ≤ capacities) {page next n
     {places depths ranks places′ depths′ ranks′ : List ℕ} {s : Step}
     (run : Running policy k past (page ∷ to) n places depths ranks)
     (done : Referred policy page next n k places depths ranks places′ depths′ ranks′ s) where
-  stepped : Stepped (shownOf policy) k (entry (rankingOf policy past (page ∷ to)) page) (entry (rankingOf policy (page ∷ past) to) page)
+  stepped : Stepped (shownOf policy) k
+      (entry (rankingOf policy past (page ∷ to)) page) (entry (rankingOf policy (page ∷ past) to) page)
       (lengthAfter policy k past (page ∷ to)) (placesAfter policy k past (page ∷ to)) places′ s
   unfolding entry
   stepped =
@@ -130,7 +133,12 @@ module _ {policy k : ℕ} (low : 1 ≤ k) (high : k ≤ capacities) {page next n
   run-next =
       let small : page < 65536 = omega arith in
       let shallow : s .depth ≤ capacities =
-      omega (arith, run-depth, depth-most 0 page (listAfter (policyOf policy) k past (page ∷ to)), at-most (policyOf policy) (policy-order policy) k past (page ∷ to)) in
+      omega (
+        arith,
+        run-depth,
+        depth-most 0 page (listAfter (policyOf policy) k past (page ∷ to)),
+        at-most (policyOf policy) (policy-order policy) k past (page ∷ to),
+      ) in
       record {
         length-is = length-after policy k low high page past to small (fits past good) stepped;
         places-are = places-after policy k low high page past to small (fits past good) stepped;

@@ -2,7 +2,7 @@
 use Prim.Native.Nat.{ℕ, zero, suc, _+_, _-_, _≤_, _<_, min}
 use native.Mathlib.Omega.{arith}
 use native.Mathlib.Numerals.{add-one}
-use mathlib.Core.Path.{_≡_, refl, sym, _∙_, ap}
+use mathlib.Core.Path.{_≡_, refl, _∙_}
 use mathlib.Core.List.{List, [], _∷_, _++_, map, append-assoc}
 use lib.ListN.{length, take, getD, set, replicate, length-append, length-map}
 use lib.Seq.{take-suc, take-append-seam, getD-append-add, set-at, length-take-le}
@@ -60,7 +60,8 @@ pub shown-next : (memory : List ℕ) (places : List Page) (i : ℕ) → i < leng
 shown-next memory places i h room e =
     let l : List ℕ = map pageOf (take i memory) in
     let x : ℕ = pageOf (getD memory i 0) in
-    let long : length (map pageOf (take i memory)) ≡ i = length-map (take i memory) pageOf ∙ length-take-le i memory (omega arith) in
+    let long : length (map pageOf (take i memory)) ≡ i =
+    length-map (take i memory) pageOf ∙ length-take-le i memory (omega arith) in
     rw (
       e,
       placesOf-room l (omega arith),

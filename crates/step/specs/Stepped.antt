@@ -2,7 +2,7 @@
 use Prim.Native.Nat.{ℕ, suc, min, max}
 use mathlib.Core.Bool.{Bool, cond, _&&_}
 use mathlib.Core.Path.{_≡_}
-use mathlib.Core.List.{List, [], _∷_, _++_}
+use mathlib.Core.List.{List, _++_}
 use lib.Dec.{ltb, eqb}
 use lib.ListN.{length, take, drop, getD, set}
 use Rattle.theory.specs.Priority.{Priority}
@@ -12,8 +12,8 @@ use Rattle.step.specs.declared.Carried.{Carried}
 use Rattle.step.specs.declared.Step.{Step}
 
 -- The places in use after a reference to the page whose entry is `old` and is `new` from now on: of the first n places of the
--- memory, grown by what is left over if the limit k and the memory have room for it. The larger of two numbers is taken since this
--- speaks of any memory: one with more places in use than k allows keeps them all.
+-- memory, grown by what is left over if the limit k and the memory have room for it. The larger of two numbers is taken since
+-- this speaks of any memory: one with more places in use than k allows keeps them all.
 unfoldable pub next : Priority → ℕ → ℕ → ℕ → ℕ → List ℕ → List ℕ
 next above k old new n memory =
     take (max (length (take n memory)) (min k (length memory))) (placeEntry above old new (take n memory))

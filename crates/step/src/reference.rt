@@ -65,7 +65,9 @@ fn step_list(
     places: &mut [u32; CAPACITIES],
     ranks: &mut [u16; PAGES as usize],
 ) -> Step
-    ensures { λ r. ⌜ Listed policy page next n k (now (places .entry)) (now (ranks .entry)) (now (places .exit)) (now (ranks .exit)) r ⌝ }
+    ensures { λ r. ⌜ Listed policy page next n k
+        (now (places .entry)) (now (ranks .entry))
+        (now (places .exit)) (now (ranks .exit)) r ⌝ }
 {
     if policy == LRU {
         let unranked = entry(0, page);
@@ -90,7 +92,9 @@ pub fn refer(
     depths: &mut [u32; DEPTHS],
     ranks: &mut [u16; PAGES as usize],
 ) -> Step
-    ensures { λ r. ⌜ Referred policy page next n k (now (places .entry)) (now (depths .entry)) (now (ranks .entry)) (now (places .exit)) (now (depths .exit)) (now (ranks .exit)) r ⌝ }
+    ensures { λ r. ⌜ Referred policy page next n k
+        (now (places .entry)) (now (depths .entry)) (now (ranks .entry))
+        (now (places .exit)) (now (depths .exit)) (now (ranks .exit)) r ⌝ }
 {
     let s = step_list(policy, page, next, n, k, places, ranks);
     let depth = s.depth;

@@ -15,22 +15,27 @@ sub-shift-down c = search needs
 
 shift-down-requires : tie.Need-shift-down-requires
 shift-down-requires c κs =
-    let start = c .before .before .before .before .before in
-    found-inside (start .args .old) (start .args .list .now) (c .before .before .find .ensures) (c .before .if1 .taken)
+    let checked = c .before in
+    let asked = checked .before .before .before .before in
+    found-inside (asked .args .old) (asked .args .list .now) (checked .before .find .ensures) (checked .if1 .taken)
 
 same-length : tie.Need-same-length
 same-length c = search needs
 
 returns : tie.Need-returns
 returns c =
-    let at-if = c .before .before .before .before in
-    carried-found (c .before .before .before .before .before .before .before .before .args .old) (at-if .before .find .ensures) (at-if .if1 .taken) (c .before .before .shift-down .ensures)
+    let checked = c .before .before .before .before in
+    let asked = checked .before .before .before .before in
+    carried-found (asked .args .old) (checked .before .find .ensures) (checked .if1 .taken)
+    (c .before .before .shift-down .ensures)
 
 same-length-2 : tie.Need-same-length-2
 same-length-2 c = search needs
 
 returns-2 : tie.Need-returns-2
-returns-2 c = carried-empty (c .before .before .before .before .before .args .old) (c .before .before .before .before .before .args .list .now) (c .if2 .taken)
+returns-2 c =
+    let asked = c .before .before .before .before .before in
+    carried-empty (asked .args .old) (asked .args .list .now) (c .if2 .taken)
 
 sub-last : tie.Need-sub-last
 sub-last c = search needs
@@ -52,10 +57,12 @@ same-length-3 c = search needs
 
 returns-3 : tie.Need-returns-3
 returns-3 c =
-    let at-if = c .before .before .before .before .before .before in
-    let start = at-if .before .before .before .before in
-    let nowhere : 0 ≡ depth (start .args .old) (start .args .list .now) = omega (arith, at-if .before .find .ensures, at-if .if1 .left) in
-    carried-missing (start .args .old) nowhere (omega (arith, c .before .before .before .before .before .if2 .left)) (c .before .before .shift-down2 .ensures)
+    let not-empty = c .before .before .before .before .before in
+    let checked = not-empty .before in
+    let asked = checked .before .before .before .before in
+    let nowhere : 0 ≡ depth (asked .args .old) (asked .args .list .now) =
+    omega (arith, checked .before .find .ensures, checked .if1 .left) in
+    carried-missing (asked .args .old) nowhere (omega (arith, not-empty .if2 .left)) (c .before .before .shift-down2 .ensures)
 
 pub carry-all-spec : {M : Type 1} → statement M
 carry-all-spec =

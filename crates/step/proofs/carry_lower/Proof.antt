@@ -2,7 +2,7 @@
 use Prim.Native.Nat.{_+_, _-_}
 use native.Mathlib.Omega.{arith}
 use mathlib.Core.Path.{refl}
-use lib.ListN.{length, length-set}
+use lib.ListN.{length}
 use borrow.Author.Needs.{needs}
 use Rattle.kept.specs.Entries.{larger}
 use Rattle.step.proofs.Walk.{Walk, walk-start, walk-next, walk-found, walk-end}
@@ -37,7 +37,9 @@ same-length : tie.Need-same-length Inv-loop μ-loop
 same-length c = search needs
 
 returns : tie.Need-returns Inv-loop μ-loop
-returns c = walk-found (c .before .before .before .loop .inv) (omega arith) (record { depth = c .before .before .before .loop .i + 1; last = 0 }) (c .if1 .taken) refl refl
+returns c =
+    let looped = c .before .before .before in
+    walk-found (looped .loop .inv) (omega arith) (record { depth = looped .loop .i + 1; last = 0 }) (c .if1 .taken) refl refl
 
 stays-requires : tie.Need-stays-requires Inv-loop μ-loop
 stays-requires c κs = search needs
@@ -59,8 +61,9 @@ loop-less c = search needs
 
 loop-again : tie.Need-loop-again Inv-loop μ-loop
 loop-again c =
-    rw (c .sinks .ensures, c .before .stays .ensures)
-    (walk-next (c .before .before .before .before .before .loop .inv) (omega arith) (c .before .before .if1 .left))
+    let checked = c .before .before in
+    let looped = checked .before .before .before in
+    rw (c .sinks .ensures, c .before .stays .ensures) (walk-next (looped .loop .inv) (omega arith) (checked .if1 .left))
 
 same-length-2 : tie.Need-same-length-2 Inv-loop μ-loop
 same-length-2 c = search needs

@@ -14,7 +14,8 @@ slice-relend-prefix-place-first c = search needs
 
 slice-aggregate-place-first : tie.Need-slice-aggregate-place-first
 slice-aggregate-place-first c =
-    rw (length-take (c .before .in-use .result) (c .before .before .before .args .list .now)) (omega (arith, c .before .in-use .ensures))
+    let asked = c .before .before .before in
+    rw (length-take (c .before .in-use .result) (asked .args .list .now)) (omega (arith, c .before .in-use .ensures))
 
 place-first-requires : tie.Need-place-first-requires
 place-first-requires c κs = search needs
@@ -26,7 +27,10 @@ same-length : tie.Need-same-length
 same-length c = search needs
 
 returns : tie.Need-returns
-returns c = whole-step (c .before .before .before .before .before .before .before .before .in-use .ensures) ((c .before .before .before .before .before .before .place-first .ensures)) (c .before .before .settle .ensures)
+returns c =
+    let settled = c .before .before in
+    let placed = settled .before .before .before .before in
+    whole-step (placed .before .before .in-use .ensures) (placed .place-first .ensures) (settled .settle .ensures)
 
 pub place-spec : {M : Type 1} → statement M
 place-spec =

@@ -38,19 +38,26 @@ slice-write-list-2 : tie.Need-slice-write-list-2
 slice-write-list-2 c = search needs
 
 add-t16 : tie.Need-add-t16
-add-t16 c = omega (arith, part-depth (c .before .before .before .before .before .carry-lower .ensures), length-take (length (c .before .before .before .before .before .before .before .before .before .before .before .args .list .now) - 1) (drop 1 (c .before .before .before .before .before .before .before .before .before .before .before .args .list .now)))
+add-t16 c =
+    let carried = c .before .before .before .before .before in
+    let list = carried .before .before .before .before .before .before .args .list .now in
+    omega (arith, part-depth (carried .carry-lower .ensures), length-take (length list - 1) (drop 1 list))
 
 same-length-2 : tie.Need-same-length-2
 same-length-2 c = search needs
 
 returns-3 : tie.Need-returns-3
-returns-3 c = place-missing (omega arith) (c .before .before .before .before .before .before .if2 .left) (c .before .before .before .before .carry-lower .ensures) (c .if3 .taken)
+returns-3 c =
+    let carried = c .before .before .before .before in
+    place-missing (omega arith) (carried .before .before .if2 .left) (carried .carry-lower .ensures) (c .if3 .taken)
 
 same-length-3 : tie.Need-same-length-3
 same-length-3 c = search needs
 
 returns-4 : tie.Need-returns-4
-returns-4 c = place-found (omega arith) (c .before .before .before .before .before .before .before .if2 .left) (c .before .before .before .before .before .carry-lower .ensures) (c .before .if3 .left)
+returns-4 c =
+    let carried = c .before .before .before .before .before in
+    place-found (omega arith) (carried .before .before .if2 .left) (carried .carry-lower .ensures) (c .before .if3 .left)
 
 pub place-first-spec : {M : Type 1} → statement M
 place-first-spec =

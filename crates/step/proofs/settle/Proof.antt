@@ -21,7 +21,9 @@ returns : tie.Need-returns
 returns c = settle-grown _ _ _ _ (c .before .before .if1 .taken) (c .before .if2 .taken) (c .if3 .taken)
 
 returns-2 : tie.Need-returns-2
-returns-2 c = settle-kept _ _ _ _ (rw (eq-eqb _ _ (c .before .before .if1 .taken), lt-ltb _ _ (c .before .if2 .taken), le-ltb _ _ (c .if3 .left)))
+returns-2 c =
+    settle-kept _ _ _ _
+    (rw (eq-eqb _ _ (c .before .before .if1 .taken), lt-ltb _ _ (c .before .if2 .taken), le-ltb _ _ (c .if3 .left)))
 
 returns-3 : tie.Need-returns-3
 returns-3 c = settle-kept _ _ _ _ (rw (eq-eqb _ _ (c .before .if1 .taken), le-ltb _ _ (c .if2 .left)))

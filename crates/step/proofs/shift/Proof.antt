@@ -15,7 +15,8 @@ slice-relend-prefix-carry-all c = search needs
 
 slice-aggregate-carry-all : tie.Need-slice-aggregate-carry-all
 slice-aggregate-carry-all c =
-    rw (length-take (c .before .in-use .result) (c .before .before .before .args .list .now)) (omega (arith, c .before .in-use .ensures))
+    let asked = c .before .before .before in
+    rw (length-take (c .before .in-use .result) (asked .args .list .now)) (omega (arith, c .before .in-use .ensures))
 
 carry-all-requires : tie.Need-carry-all-requires
 carry-all-requires c κs = search needs
@@ -27,7 +28,10 @@ same-length : tie.Need-same-length
 same-length c = search needs
 
 returns : tie.Need-returns
-returns c = whole-step (c .before .before .before .before .before .before .before .before .in-use .ensures) (shift-places (c .before .before .before .before .before .before .carry-all .ensures)) (c .before .before .settle .ensures)
+returns c =
+    let settled = c .before .before in
+    let carried = settled .before .before .before .before in
+    whole-step (carried .before .before .in-use .ensures) (shift-places (carried .carry-all .ensures)) (settled .settle .ensures)
 
 pub shift-spec : {M : Type 1} → statement M
 shift-spec =

@@ -41,12 +41,19 @@ loop-less c = search needs
 
 loop-again : tie.Need-loop-again Inv-loop μ-loop
 loop-again c =
-    (omega (arith, upTo-step (c .before .before .before .before .before .args .depths .now) (c .before .before .before .loop .d), c .wide .ensures .0), omega arith, omega arith)
+    let looped = c .before .before .before in
+    let asked = looped .before .before in (
+      omega (arith, upTo-step (asked .args .depths .now) (looped .loop .d), c .wide .ensures .0),
+      omega arith,
+      omega arith,
+    )
 
 returns : tie.Need-returns Inv-loop μ-loop
 returns c =
-    let end : c .before .loop .d ≡ min (c .before .before .before .args .c) capacities = omega (arith, c .before .before .in-use .ensures) in
-    c .before .loop .inv .0 ∙ ap (upTo (c .before .before .before .args .depths .now)) end
+    let looped = c .before in
+    let asked = looped .before .before in
+    let end : looped .loop .d ≡ min (asked .args .c) capacities = omega (arith, looped .before .in-use .ensures) in
+    looped .loop .inv .0 ∙ ap (upTo (asked .args .depths .now)) end
 
 pub sum-spec : {M : Type 1} → statement M
 sum-spec =

@@ -36,7 +36,8 @@ returns-2 c =
     let entered = c .before .before in
     let ranked = entered .before .before .before .before in
     listed-ranked (ranked .before .before .before .if1 .left) (ranked .before .rank-of .ensures) (ranked .next-rank .ensures)
-    (entered .before .before .keep-rank .ensures) (entered .before .entry2 .ensures) (entered .entry3 .ensures) (c .place .ensures)
+    (entered .before .before .keep-rank .ensures) (entered .before .entry2 .ensures) (entered .entry3 .ensures)
+    (c .place .ensures)
 
 pub step-list-spec : {M : Type 1} → statement M
 step-list-spec =

@@ -35,9 +35,11 @@ loop-less c = search needs
 
 loop-again : tie.Need-loop-again Inv-loop μ-loop
 loop-again c =
-    let at-loop = c .before .before in
-    let args = at-loop .before .args in
-    (omega arith, block-next (args .old) (args .from) (at-loop .loop .j) (args .list .now) (at-loop .loop .found) (at-loop .loop .inv .1))
+    let looped = c .before .before in
+    let args = looped .before .args in (
+      omega arith,
+      block-next (args .old) (args .from) (looped .loop .j) (args .list .now) (looped .loop .found) (looped .loop .inv .1),
+    )
 
 returns : tie.Need-returns Inv-loop μ-loop
 returns c = λ none i h. c .before .loop .inv .1 none i (omega arith)

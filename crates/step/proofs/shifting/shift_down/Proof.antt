@@ -36,7 +36,9 @@ loop-less : tie.Need-loop-less Inv-loop μ-loop
 loop-less c = search needs
 
 loop-again : tie.Need-loop-again Inv-loop μ-loop
-loop-again c = moving-next (c .before .before .before .pre) (c .before .before .loop .i) (omega arith) (c .before .before .loop .inv)
+loop-again c =
+    let looped = c .before .before in
+    moving-next (looped .before .pre) (looped .loop .i) (omega arith) (looped .loop .inv)
 
 slice-write-list-2 : tie.Need-slice-write-list-2 Inv-loop μ-loop
 slice-write-list-2 c = search needs

@@ -47,17 +47,24 @@ loop-less : tie.Need-loop-less Inv-loop μ-loop
 loop-less c = search needs
 
 loop-again : tie.Need-loop-again Inv-loop μ-loop
-loop-again c = (
-  rw (c .page .ensures)
-      (shown-next (c .before .before .before .before .before .before .before .args .list .now) (c .before .before .before .loop .places) (c .before .before .before .loop .i) (omega (arith, c .before .before .before .before .in-use2 .ensures, c .before .before .before .before .before .in-use .ensures))
-      (omega (arith, c .before .before .before .before .in-use2 .ensures)) (c .before .before .before .loop .inv .0)),
-  omega arith,
-)
+loop-again c =
+    let looped = c .before .before .before in
+    let limited = looped .before in
+    let asked = limited .before .before .before in (
+      rw (c .page .ensures)
+          (shown-next (asked .args .list .now) (looped .loop .places) (looped .loop .i)
+          (omega (arith, limited .in-use2 .ensures, limited .before .in-use .ensures))
+          (omega (arith, limited .in-use2 .ensures)) (looped .loop .inv .0)),
+      omega arith,
+    )
 
 returns : tie.Need-returns Inv-loop μ-loop
 returns c =
-    shown-end (c .before .before .before .before .before .args .n) (c .before .before .before .before .before .args .list .now) (c .before .loop .places) (c .before .loop .i)
-    (omega (arith, c .before .before .in-use2 .ensures, c .before .before .before .in-use .ensures)) (c .before .loop .inv .0)
+    let looped = c .before in
+    let limited = looped .before in
+    let asked = limited .before .before .before in
+    shown-end (asked .args .n) (asked .args .list .now) (looped .loop .places) (looped .loop .i)
+    (omega (arith, limited .in-use2 .ensures, limited .before .in-use .ensures)) (looped .loop .inv .0)
 
 pub show-spec : {M : Type 1} → statement M
 show-spec =
