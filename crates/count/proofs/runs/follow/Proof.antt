@@ -26,7 +26,9 @@ mul-refer : tie.Need-mul-refer Inv-loop μ-loop
 mul-refer c = search needs
 
 shared-slice-read-refer : tie.Need-shared-slice-read-refer Inv-loop μ-loop
-shared-slice-read-refer c = omega (arith, c .before .before .before .before .before .before .pre .fit .within)
+shared-slice-read-refer c =
+    let looped = c .before .before .before in
+    omega (arith, looped .before .before .before .pre .fit .within)
 
 refer-requires : tie.Need-refer-requires Inv-loop μ-loop
 refer-requires c κs = search needs
@@ -39,14 +41,17 @@ loop-less c = search needs
 
 loop-again : tie.Need-loop-again Inv-loop μ-loop
 loop-again c =
-    let looped = c .before .before .before .before .before .before .before in (
+    let found = c .before .before .before .before .before in
+    let looped = found .before .before in (
       run-next (looped .before .before .before .pre) (looped .loop .i) (looped .loop .inv .0) (omega arith)
-          (c .before .before .before .before .before .next-at .ensures) (c .refer .ensures),
+          (found .next-at .ensures) (c .refer .ensures),
       omega arith,
     )
 
 returns : tie.Need-returns Inv-loop μ-loop
-returns c = run-end (c .before .before .before .before .pre) (c .before .loop .i) (c .before .loop .inv .0) (omega arith)
+returns c =
+    let looped = c .before in
+    run-end (looped .before .before .before .pre) (looped .loop .i) (looped .loop .inv .0) (omega arith)
 
 pub follow-spec : {M : Type 1} → statement M
 follow-spec =
