@@ -18,8 +18,8 @@ add-t17 c = search needs
 
 returns-3 : tie.Need-returns-3
 returns-3 c =
-    let checked = c .before .before .before .before .before .before in
-    refer-done (checked .if1 .left) (c .before .before .before .before .before .if2 .left) (c .before .refer .ensures)
+    let checked = c .before .before .before .before .before in
+    refer-done (checked .before .if1 .left) (checked .if2 .left) (c .before .refer .ensures)
 
 pub refer-spec : {M : Type 1} → statement M
 refer-spec = tie.close (tie.spec returns returns-2 refer-requires add-t17 returns-3)
