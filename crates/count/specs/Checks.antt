@@ -1,8 +1,7 @@
 -- The refusals 5, 1 and 2 as a number, and what that number says of the chain that begins with them.
 use Prim.Native.Nat.{ℕ, _≤_, _<_}
 use native.Mathlib.Omega.{arith}
-use mathlib.Core.Bool.{Bool, true, false, cond, not, _&&_}
-use mathlib.Core.Path.{_≡_, refl, sym, _∙_}
+use mathlib.Core.Path.{_≡_}
 use lib.Dec.{leb, ltb}
 use borrow.Author.Tests.{leb-true, leb-false, ltb-false}
 use Rattle.rules.specs.Limits.{policies, references, isCapacity, capacities}
@@ -45,6 +44,11 @@ limits-within policy k count z =
     (λ a. by-cases (leb 1 k)
     (λ b. by-cases (leb k capacities)
     (λ c. by-cases (ltb references count) (λ d. absurd (omega (arith, rw (a, b, c, d) at z)))
-    (λ d. record { policy-small = leb-false policies policy a; low = leb-true 1 k b; high = leb-true k capacities c; few = ltb-false references count d }))
+    (λ d. record {
+      policy-small = leb-false policies policy a;
+      low = leb-true 1 k b;
+      high = leb-true k capacities c;
+      few = ltb-false references count d;
+    }))
     (λ c. absurd (omega (arith, rw (a, b, c) at z))))
     (λ b. absurd (omega (arith, rw (a, b) at z))))

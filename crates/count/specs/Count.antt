@@ -1,12 +1,13 @@
 -- Whole traces: which refusal is given (rules O1 and O2), and what the hit table holds afterwards (rule A4).
 use Prim.Native.Nat.{ℕ}
-use mathlib.Core.Bool.{Bool, not}
+use mathlib.Core.Bool.{not}
 use mathlib.Core.Path.{_≡_}
 use mathlib.Core.List.{List, [], _++_}
 use lib.Dec.{leb, ltb}
 use lib.ListN.{length, drop}
 use Rattle.rules.specs.Limits.{policies, references, isCapacity}
-use Rattle.rules.specs.Refusals.{badPolicy, badLimit, tooManyReferences, shortTable, pastTheTrace, refuseIf, firstBadPage, whenAccepted}
+use Rattle.rules.specs.Refusals.{badPolicy, badLimit, tooManyReferences, shortTable, pastTheTrace}
+use Rattle.rules.specs.Refusals.{refuseIf, firstBadPage, whenAccepted}
 use Rattle.rules.specs.declared.Answer.{Answer}
 use Rattle.rules.specs.declared.Answer.the-variants.{Accepted}
 use Rattle.theory.specs.Plain.{hitsUpTo}

@@ -1,15 +1,14 @@
 -- A count's promise, answer by answer: what the code has checked at each return, and what that makes of the promise.
-use Prim.Native.Nat.{ℕ, zero, suc, _+_, _≤_, _<_}
+use Prim.Native.Nat.{ℕ, suc, _+_, _≤_, _<_}
 use native.Mathlib.Omega.{arith}
-use mathlib.Core.Bool.{Bool, true, false, cond}
-use mathlib.Core.Path.{_≡_, refl, sym, _∙_, ap}
+use mathlib.Core.Path.{_≡_, sym, _∙_, ap}
 use mathlib.Core.List.{List, [], _∷_, _++_, reverse}
-use lib.Dec.{leb, ltb}
-use lib.ListN.{length, take, drop}
+use lib.Dec.{leb}
+use lib.ListN.{length, drop}
 use lib.Seq.{take-length, drop-length}
 use borrow.Author.Tests.{lt-ltb, le-ltb, leb-false}
-use Rattle.rules.specs.Limits.{pages, references, capacities}
-use Rattle.rules.specs.Refusals.{refusal, refuseIf, shortTable, badPage, pastTheTrace, firstBadPage, whenAccepted}
+use Rattle.rules.specs.Limits.{pages}
+use Rattle.rules.specs.Refusals.{refusal, shortTable, badPage}
 use Rattle.rules.specs.FirstBad.{firstBad, first-bad-found, first-bad-none}
 use Rattle.rules.specs.Lists.{valuesFrom}
 use Rattle.rules.specs.Cases.{by-cases}
@@ -43,7 +42,8 @@ refused e = record { answer = sym e; table = rw e }
 module _ (trace : List ℕ) (policy k number : ℕ) (table : List ℕ) (checked : number ≡ limitsNumber policy k (length trace)) where
   pub count-limits : (number ≡ 0 → ⊥) → Counted trace policy k table table (refusal number 0)
   unfolding countAnswer
-  count-limits n = refused (limits-refused policy k (length trace) _ (λ q. n (checked ∙ q)) ∙ ap (λ (m : ℕ). refusal m 0) (sym checked))
+  count-limits n =
+      refused (limits-refused policy k (length trace) _ (λ q. n (checked ∙ q)) ∙ ap (λ (m : ℕ). refusal m 0) (sym checked))
 
   module _ (passed : number ≡ 0) where
     through : (rest : Answer) → withinLimits policy k (length trace) rest ≡ rest

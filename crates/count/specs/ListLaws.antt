@@ -1,8 +1,8 @@
 -- The list's promise, answer by answer.
 use Prim.Native.Nat.{ℕ, _≤_, _<_}
 use native.Mathlib.Omega.{arith}
-use mathlib.Core.Path.{_≡_, refl, sym, _∙_, ap}
-use mathlib.Core.List.{List, []}
+use mathlib.Core.Path.{_≡_, sym, _∙_, ap}
+use mathlib.Core.List.{List}
 use lib.ListN.{length, drop}
 use borrow.Author.Tests.{lt-ltb, le-ltb}
 use Rattle.rules.specs.Limits.{pages}
@@ -11,7 +11,6 @@ use Rattle.rules.specs.FirstBad.{firstBad, first-bad-found, first-bad-none}
 use Rattle.rules.specs.declared.Answer.{Answer}
 use Rattle.rules.specs.declared.Answer.the-variants.{Accepted}
 use Rattle.rules.specs.declared.Page.{Page}
-use Rattle.theory.specs.Policy.{policyOf}
 use Rattle.theory.specs.OnePass.{listOf}
 use Rattle.kept.specs.Memory.{lengthAfter}
 use Rattle.step.specs.Shown.{shownPlaces}
@@ -33,7 +32,8 @@ refused e = record { answer-is = sym e; length-is = rw e; places-are = rw e }
 module _ (trace : List ℕ) (policy k t number : ℕ) (checked : number ≡ limitsNumber policy k (length trace)) where
   pub list-limits : (number ≡ 0 → ⊥) → Showing trace policy k t (unlisted number 0)
   unfolding listAnswer
-  list-limits n = refused (limits-refused policy k (length trace) _ (λ q. n (checked ∙ q)) ∙ ap (λ (m : ℕ). refusal m 0) (sym checked))
+  list-limits n =
+      refused (limits-refused policy k (length trace) _ (λ q. n (checked ∙ q)) ∙ ap (λ (m : ℕ). refusal m 0) (sym checked))
 
   module _ (passed : number ≡ 0) (bad : ℕ) (bad-is : bad ≡ firstBad 0 trace) where
     through : (rest : Answer) → withinLimits policy k (length trace) rest ≡ rest
@@ -64,6 +64,8 @@ module _ (trace : List ℕ) (policy k t number : ℕ) (checked : number ≡ limi
             record {
               answer-is = sym yes;
               length-is = rw yes (ran .running .length-is);
-              places-are = rw yes (run-shown policy k (before trace t) (drop t trace) (list-fit .high) (before-below pages trace t (list-fit .good)) (ran .running .length-is)
-                  (ran .running .places-are) p);
+              places-are =
+                  rw yes
+                  (run-shown policy k (before trace t) (drop t trace) (list-fit .high)
+                  (before-below pages trace t (list-fit .good)) (ran .running .length-is) (ran .running .places-are) p);
             }

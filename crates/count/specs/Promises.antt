@@ -1,13 +1,11 @@
 -- What the promises of `count` and `list` give their users: each pins its whole answer, and the demands hold of the code's own
 -- results (docs/RULES.md, D1 to D3).
-use Prim.Native.Nat.{ℕ, zero, suc, _+_, _≤_, _<_}
+use Prim.Native.Nat.{ℕ, _+_, _≤_, _<_}
 use native.Mathlib.Omega.{arith}
-use native.Mathlib.Nat.{add-suc, suc-add, add-zero}
-use mathlib.Core.Path.{_≡_, refl, sym, _∙_, ap}
-use mathlib.Core.List.{List, [], _∷_, _++_, map, reverse}
+use mathlib.Core.Path.{_≡_, sym, _∙_}
+use mathlib.Core.List.{List, _++_, map, reverse}
 use lib.ListN.{length, take, drop, getD, List·getD-append}
-use lib.Seq.{getD-append-add, getD-drop, drop-drop}
-use Rattle.rules.specs.Refusals.{whenAccepted}
+use lib.Seq.{getD-append-add, getD-drop}
 use Rattle.rules.specs.declared.Answer.{Answer}
 use Rattle.rules.specs.declared.Answer.the-variants.{Accepted, Refused}
 use Rattle.rules.specs.declared.Refusal.{Refusal}
@@ -60,8 +58,9 @@ module _ {trace before after : List ℕ} {policy k : ℕ} where
   later-entries p i =
       let accepted : countAnswer policy k (length before) trace ≡ Accepted = sym (p .answer) in
       let filled : after ≡ hitsUpTo policy k trace ++ drop k before = p .table ∙ rw accepted in
-      let behind : getD (hitsUpTo policy k trace ++ drop k before) (length (hitsUpTo policy k trace) + i) 0 ≡ getD (drop k before) i 0 =
-      getD-append-add (hitsUpTo policy k trace) (drop k before) i 0 in
+      let hits : List ℕ = hitsUpTo policy k trace in
+      let behind : getD (hits ++ drop k before) (length hits + i) 0 ≡ getD (drop k before) i 0 =
+      getD-append-add hits (drop k before) i 0 in
       rw filled (rw (values-length (λ (c : ℕ). hitsAt policy c trace) 1 k) at behind) ∙ getD-drop k before i 0
 
   -- A3: a refusal leaves the table as it was
@@ -90,7 +89,8 @@ module _ {trace : List ℕ} {policy k t : ℕ} {r : Listed} (p : Showing trace p
     unfolding listShown listOf
     listed-most =
         let yes : listAnswer policy k trace t ≡ Accepted = sym (p .answer-is) ∙ accepted in
-        let long : r .length ≡ length (listAfter (policyOf policy) k (reverse (take t trace)) (drop t trace)) = p .length-is ∙ rw yes in
+        let long : r .length ≡ length (listAfter (policyOf policy) k (reverse (take t trace)) (drop t trace)) =
+        p .length-is ∙ rw yes in
         rw long (at-most (policyOf policy) (policy-order policy) k (reverse (take t trace)) (drop t trace))
 
     -- D3: the pages in its first C places are those of the plain cache of C frames after t references, with the rest of the
@@ -99,4 +99,5 @@ module _ {trace : List ℕ} {policy k t : ℕ} {r : Listed} (p : Showing trace p
         → holds page (take c (pagesShown (r .length) (r .places)))
         ≡ holds page (cacheAfter (policyOf policy) c (reverse (take t trace)) (drop t trace))
     listed-is-cache c low high page =
-        rw is-list (list-is-cache (policyOf policy) (policy-order policy) c k low high (reverse (take t trace)) (drop t trace) page)
+        rw is-list
+        (list-is-cache (policyOf policy) (policy-order policy) c k low high (reverse (take t trace)) (drop t trace) page)

@@ -2,8 +2,8 @@
 use Prim.Native.Nat.{ℕ, zero, suc, _+_, _≤_, _<_}
 use native.Mathlib.Omega.{arith}
 use native.Mathlib.Numerals.{add-one}
-use mathlib.Core.Path.{_≡_, refl, sym, _∙_, ap}
-use mathlib.Core.List.{List, [], _∷_, _++_, reverse, reverseAux}
+use mathlib.Core.Path.{_≡_, refl}
+use mathlib.Core.List.{List, [], _∷_, _++_, reverseAux}
 use lib.ListN.{length, take, drop, getD, replicate, length-take, length-reverse}
 use lib.Seq.{take-suc, drop-cons}
 use Rattle.rules.specs.Limits.{capacities, references, pages}
@@ -12,8 +12,7 @@ use Rattle.kept.specs.Memory.{Running}
 use Rattle.step.specs.declared.Step.{Step}
 use Rattle.step.specs.Referred.{Referred}
 use Rattle.step.specs.RunLaws as step
-use Rattle.count.specs.declared.runs.Run.{Run}
-use Rattle.count.specs.Runs.{before, Fit, Ran, Followable}
+use Rattle.count.specs.Runs.{before, Ran, Followable}
 
 reverse-snoc : (l r : List ℕ) (a : ℕ) → reverseAux (l ++ (a ∷ [])) r ≡ a ∷ reverseAux l r
 reverse-snoc [] r a = refl
@@ -43,7 +42,8 @@ pub before-length : (trace : List ℕ) (i : ℕ) → i ≤ length trace → leng
 before-length trace i h = rw (length-reverse (take i trace), length-take i trace) (omega arith)
 
 module _ {trace nexts ranks₀ : List ℕ} {policy k t : ℕ} (asked : Followable trace policy k t nexts ranks₀) where
-  pub run-start : Running policy k (before trace 0) (drop 0 trace) 0 (replicate capacities 0) (replicate (suc capacities) 0) ranks₀
+  pub run-start : Running policy k (before trace 0) (drop 0 trace) 0
+      (replicate capacities 0) (replicate (suc capacities) 0) ranks₀
   run-start = step.run-start policy k trace (asked .ranks-are)
 
   module _ (i : ℕ) {n : ℕ} {places depths ranks : List ℕ}

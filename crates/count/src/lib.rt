@@ -1,5 +1,6 @@
 // Counting whole traces, and the list of a trace. A trace is lent and read by index; any trace, policy, limit and table is
-// answered. What the promises say stands in specs/Count.antt (which refusal and place, which hits) and specs/Listing.antt (which list).
+// answered. What the promises say stands in specs/Count.antt (which refusal and place, which hits) and specs/Listing.antt
+// (which list).
 ghost use Rattle.count.specs.Count.{Counted};
 ghost use Rattle.count.specs.Listing.{Showing, unlisted};
 ghost use mathlib.Core.Path.{_≡_};

@@ -81,7 +81,9 @@ fn next_at(nexts: &[u16], i: usize) -> u16
 // none; and for each page how near its first reference is.
 fn look_ahead(trace: &[u16], nexts: &mut [u16; REFERENCES], near: &mut [u16; PAGES as usize])
     requires { ⌜ LookAhead (now trace) (now nexts) (now near) ⌝ }
-    ensures { λ r. ⌜ (now (nexts .exit) ≡ «of-nexts» (now (trace .entry)) ++ drop (length (now (trace .entry))) (now (nexts .entry))) × (now (near .exit) ≡ coming (now (trace .entry))) ⌝ }
+    ensures { λ r. ⌜
+        (now (nexts .exit) ≡ «of-nexts» (now (trace .entry)) ++ drop (length (now (trace .entry))) (now (nexts .entry)))
+        × (now (near .exit) ≡ coming (now (trace .entry))) ⌝ }
 {
     let mut i = trace.len();
     while 0 < i {

@@ -1,26 +1,24 @@
 -- A replay, step by step: a reference, the hit table, the promise answer by answer.
-use Prim.Native.Nat.{ℕ, suc, _+_, _≤_, _<_}
+use Prim.Native.Nat.{ℕ, _+_, _≤_, _<_}
 use native.Mathlib.Omega.{arith}
-use native.Mathlib.Numerals.{add-one}
 use mathlib.Core.Bool.{true, false}
 use mathlib.Core.Path.{_≡_, refl, sym, _∙_, ap, subst₂}
-use mathlib.Core.List.{List, [], _∷_, _++_, reverse}
+use mathlib.Core.List.{List, [], _∷_, reverse}
 use lib.Dec.{leb}
-use lib.ListN.{length, take, drop, getD, set, length-reverse}
+use lib.ListN.{length, drop, getD, set, length-reverse}
 use lib.Seq.{take-length}
 use borrow.Author.Tests.{le-leb, lt-leb, le-ltb, lt-ltb, leb-true, leb-false}
 use Rattle.rules.specs.Limits.{capacities, references, pages, policies, opt, isCapacity}
 use Rattle.rules.specs.Refusals.{refusal, refuseIf, badPolicy, tooManyReferences, shortTable, badPage}
 use Rattle.rules.specs.Cases.{by-cases, clash}
 use Rattle.rules.specs.AnswerLaws.{accepted-twice, not-accepted}
-use Rattle.rules.specs.Lists.{valuesFrom}
 use Rattle.rules.specs.TableLaws.{values-next}
 use Rattle.rules.specs.FirstBad.{firstBad, first-bad-at, first-bad-next, first-bad-end, first-bad-most}
 use Rattle.rules.specs.declared.Refusal.{Refusal}
 use Rattle.rules.specs.declared.Answer.{Answer}
 use Rattle.rules.specs.declared.Answer.the-variants.{Accepted, Refused}
 use Rattle.theory.specs.Policy.{policyOf}
-use Rattle.theory.specs.Plain.{hitsAt, hitsUpTo}
+use Rattle.theory.specs.Plain.{hitsAt}
 use Rattle.theory.specs.Theorem.{hits-and-misses}
 use Rattle.kept.specs.Below.{Below}
 use Rattle.count.specs.Count.{Counted, withinLimits, countAnswer, countTable}
@@ -31,13 +29,12 @@ use Rattle.count.specs.CountLaws.{count-limits, count-short, count-bad, count-f
 use Rattle.session.specs.declared.Session.{Session}
 use Rattle.session.specs.declared.Started.{Started}
 use Rattle.session.specs.declared.Started.the-variants as started
-use Rattle.session.specs.declared.Depth.{Depth}
 use Rattle.session.specs.declared.Referenced.{Referenced}
 use Rattle.session.specs.declared.Asked.{Asked}
-use Rattle.session.specs.History.{startAnswer, referenceAnswer, acceptedOf, depthOf, hitsNow, capacityAnswer}
+use Rattle.session.specs.History.{startAnswer, acceptedOf, depthOf, hitsNow}
 use Rattle.session.specs.Memory.{Value, Depths, Gives, Alive, Counting}
-use Rattle.session.specs.Answers.{Starting, Referring, depthAs, fresh}
-use Rattle.session.specs.Reads.{HitsRead, askedAs}
+use Rattle.session.specs.Answers.{Starting, Referring, depthAs}
+use Rattle.session.specs.Reads.{HitsRead}
 use Rattle.session.specs.ReferLaws.{start-bounds, accepted-all, accepted-few}
 use Rattle.session.specs.Driving.{begun, not-begun, begun-gives}
 use Rattle.replay.specs.declared.Run.{Run}
@@ -78,7 +75,8 @@ module _ {s now : Session} {trace places depths counts places′ depths′ count
   pub along-next : refusedIn (r .depth) ≡ false → Along s trace (i + 1) (r .session) places′ depths′ counts′
   along-next accepted =
       let page-fine : getD trace i 0 < pages =
-      by-cases (leb pages (getD trace i 0)) (λ e. clash (ap refusedIn (answers true e)) accepted) (λ e. leb-false pages (getD trace i 0) e) in
+      by-cases (leb pages (getD trace i 0)) (λ e. clash (ap refusedIn (answers true e)) accepted)
+      (λ e. leb-false pages (getD trace i 0) e) in
       let longer : before trace (i + 1) ≡ getD trace i 0 ∷ before trace i = before-next trace i more in
       record {
         inside = omega arith;
@@ -91,7 +89,8 @@ module _ {s now : Session} {trace places depths counts places′ depths′ count
       → Followed s trace places′ depths′ counts′ (record { session = r .session; accepted = i })
   along-stop refused =
       let bad : pages ≤ getD trace i 0 =
-      by-cases (leb pages (getD trace i 0)) (λ e. leb-true pages (getD trace i 0) e) (λ e. clash refused (ap refusedIn (answers false e))) in
+      by-cases (leb pages (getD trace i 0)) (λ e. leb-true pages (getD trace i 0) e)
+      (λ e. clash refused (ap refusedIn (answers false e))) in
       record {
         accepted-is = sym (first-bad-at trace i more bad) ∙ a .ahead;
         gives = λ all. absurd (omega arith);
@@ -129,7 +128,8 @@ module _ {s : Session} {depths : List ℕ} {c : ℕ} {asked : Asked} (inside : c
       → HitsFilled s depths c before hits → HitsFilled s depths (c + 1) before (set hits c number)
   hits-next before {hits} told room filled =
       λ policy k calls v d.
-      rw (told, number-is policy k calls v d) (values-next (λ n. hitsNow policy n calls) hits before c room (filled policy k calls v d))
+      rw (told, number-is policy k calls v d)
+      (values-next (λ n. hitsNow policy n calls) hits before c room (filled policy k calls v d))
 
 -- the refusals 5, 1 and 2 of a trace whose session was started
 limits-many : (policy k n : ℕ) → startAnswer policy k ≡ Accepted → references < n → limitsNumber policy k n ≡ tooManyReferences
@@ -147,8 +147,8 @@ limits-none policy k n e few =
 module _ {s : Session} {places depths counts : List ℕ} (only-started : Fresh s places depths counts) (trace table : List ℕ) where
   pub drive-many : references < length trace → Counted trace (s .policy) (s .k) table table (refusal tooManyReferences 0)
   drive-many many =
-      count-limits trace (s .policy) (s .k) tooManyReferences table (sym (limits-many (s .policy) (s .k) (length trace) (only-started .value .started) many))
-      (λ z. omega arith)
+      count-limits trace (s .policy) (s .k) tooManyReferences table
+      (sym (limits-many (s .policy) (s .k) (length trace) (only-started .value .started) many)) (λ z. omega arith)
 
   module _ (few : length trace ≤ references) where
     passed : 0 ≡ limitsNumber (s .policy) (s .k) (length trace)
@@ -179,8 +179,11 @@ module _ {s : Session} {places depths counts : List ℕ} (only-started : Fresh s
         unfolding hitsAt
         drive-done filled =
             let g = whole in
-            let good : Below pages (reverse trace) = rw (take-length trace) at (before-below pages trace (length trace) (all-pages 0 trace (omega (arith, followed .accepted-is)))) in
-            let accepted : acceptedOf (reverse trace) ≡ reverse trace = accepted-all (reverse trace) good (omega (arith, length-reverse trace)) in
+            let only-pages : Below pages trace = all-pages 0 trace (omega (arith, followed .accepted-is)) in
+            let good : Below pages (reverse trace) =
+            rw (take-length trace) at (before-below pages trace (length trace) only-pages) in
+            let accepted : acceptedOf (reverse trace) ≡ reverse trace =
+            accepted-all (reverse trace) good (omega (arith, length-reverse trace)) in
             count-filled trace (s .policy) (s .k) 0 table passed refl room (r .accepted) (followed .accepted-is) all
             (rw (g .value .k-is, accepted) at (filled (s .policy) (s .k) (reverse trace) (g .value) (g .tallied)))
 
@@ -209,12 +212,15 @@ module _ {policy k : ℕ} {places depths counts places′ depths′ counts′ : 
       let c : Counted trace policy k table _ _ = rw (begun p e .1) at counted in
       record {
         answer = c .answer ∙ rw (lt-leb opt policy (b .session));
-        table = c .table ∙ rw (lt-leb opt policy (b .session)) (sym (accepted-twice (countAnswer policy k (length table) trace) _ table));
+        table =
+            c .table
+            ∙ rw (lt-leb opt policy (b .session)) (sym (accepted-twice (countAnswer policy k (length table) trace) _ table));
       }
 
   pub replay-refused : (trace table : List ℕ) {x : Refusal} → answer ≡ started.Refused x
       → Replayed trace policy k table table (Refused x)
   unfolding replayAnswer replayTable countAnswer
   replay-refused trace table {x} e =
-      let same : replayAnswer policy k (length table) trace ≡ Refused x = refused-start policy k (length trace) _ (not-begun p e) in
+      let same : replayAnswer policy k (length table) trace ≡ Refused x =
+      refused-start policy k (length trace) _ (not-begun p e) in
       record { answer = sym same; table = rw same }

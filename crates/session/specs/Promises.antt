@@ -36,23 +36,33 @@ module _ {policy k : ℕ} {calls : List ℕ} {s s′ : Session} {places depths c
 -- two starts that both meet the promise are equal, and so are the tables they leave
 pub start-unique : {policy k : ℕ} {p d c p₁ d₁ c₁ p₂ d₂ c₂ : List ℕ} {r₁ r₂ : Started} → Starting policy k p d c p₁ d₁ c₁ r₁
     → Starting policy k p d c p₂ d₂ c₂ r₂ → (r₁ ≡ r₂) × (p₁ ≡ p₂) × (d₁ ≡ d₂) × (c₁ ≡ c₂)
-start-unique a b =
-    (a .answer ∙ sym (b .answer), a .places-are ∙ sym (b .places-are), a .depths-are ∙ sym (b .depths-are), a .counts-are ∙ sym (b .counts-are))
+start-unique a b = (
+  a .answer ∙ sym (b .answer),
+  a .places-are ∙ sym (b .places-are),
+  a .depths-are ∙ sym (b .depths-are),
+  a .counts-are ∙ sym (b .counts-are),
+)
 
 -- two references that both meet the promise answer the same and leave the same
 pub refer-unique : {s : Session} {page : ℕ} {p d c p₁ d₁ c₁ p₂ d₂ c₂ : List ℕ} {r₁ r₂ : Referenced} → Alive s p d c
     → Referring s page p d c p₁ d₁ c₁ r₁ → Referring s page p d c p₂ d₂ c₂ r₂
     → (r₁ ≡ r₂) × (p₁ ≡ p₂) × (d₁ ≡ d₂) × (c₁ ≡ c₂)
 refer-unique {r₁ = r₁} {r₂ = r₂} a f g =
-    let same = gives-unique (f .next (a .policy) (a .k) (a .calls) (a .gives)) (g .next (a .policy) (a .k) (a .calls) (a .gives)) in
-    let answer = f .answer (a .policy) (a .k) (a .calls) (a .gives) ∙ sym (g .answer (a .policy) (a .k) (a .calls) (a .gives)) in
+    let same =
+    gives-unique (f .next (a .policy) (a .k) (a .calls) (a .gives)) (g .next (a .policy) (a .k) (a .calls) (a .gives)) in
+    let answer =
+    f .answer (a .policy) (a .k) (a .calls) (a .gives) ∙ sym (g .answer (a .policy) (a .k) (a .calls) (a .gives)) in
     (λ i. record { depth = answer i; session = same .0 i }, same .1, same .2, same .3)
 
 -- two reads that both meet the promise are equal
 pub list-read-unique : {s : Session} {p : List ℕ} {r₁ r₂ : Listing} → Listable s p → ListRead s p r₁ → ListRead s p r₂ → r₁ ≡ r₂
 list-read-unique a f g =
-    let lengths = f .length-is (a .policy) (a .k) (a .calls) (a .value) (a .list) ∙ sym (g .length-is (a .policy) (a .k) (a .calls) (a .value) (a .list)) in
-    let places = f .places-are (a .policy) (a .k) (a .calls) (a .value) (a .list) ∙ sym (g .places-are (a .policy) (a .k) (a .calls) (a .value) (a .list)) in
+    let lengths =
+    f .length-is (a .policy) (a .k) (a .calls) (a .value) (a .list)
+    ∙ sym (g .length-is (a .policy) (a .k) (a .calls) (a .value) (a .list)) in
+    let places =
+    f .places-are (a .policy) (a .k) (a .calls) (a .value) (a .list)
+    ∙ sym (g .places-are (a .policy) (a .k) (a .calls) (a .value) (a .list)) in
     λ i. record { length = lengths i; places = places i }
 
 pub references-read-unique : {s : Session} {r₁ r₂ : ℕ} → Valued s → ReferencesRead s r₁ → ReferencesRead s r₂ → r₁ ≡ r₂
@@ -62,9 +72,11 @@ references-read-unique a f g =
 pub hits-read-unique : {s : Session} {d : List ℕ} {c : ℕ} {r₁ r₂ : Asked} → Counting s d → HitsRead s d c r₁ → HitsRead s d c r₂
     → r₁ ≡ r₂
 hits-read-unique a f g =
-    f .hits-are (a .policy) (a .k) (a .calls) (a .value) (a .tallied) ∙ sym (g .hits-are (a .policy) (a .k) (a .calls) (a .value) (a .tallied))
+    f .hits-are (a .policy) (a .k) (a .calls) (a .value) (a .tallied)
+    ∙ sym (g .hits-are (a .policy) (a .k) (a .calls) (a .value) (a .tallied))
 
 pub misses-read-unique : {s : Session} {d : List ℕ} {c : ℕ} {r₁ r₂ : Asked} → Counting s d → MissesRead s d c r₁
     → MissesRead s d c r₂ → r₁ ≡ r₂
 misses-read-unique a f g =
-    f .misses-are (a .policy) (a .k) (a .calls) (a .value) (a .tallied) ∙ sym (g .misses-are (a .policy) (a .k) (a .calls) (a .value) (a .tallied))
+    f .misses-are (a .policy) (a .k) (a .calls) (a .value) (a .tallied)
+    ∙ sym (g .misses-are (a .policy) (a .k) (a .calls) (a .value) (a .tallied))

@@ -1,32 +1,23 @@
 -- The reads' promises, answer by answer.
-use Prim.Native.Nat.{ℕ, _+_, _-_, _≤_, _<_, min}
+use Prim.Native.Nat.{ℕ, _-_, _≤_, _<_, min}
 use native.Mathlib.Omega.{arith}
-use mathlib.Core.Bool.{Bool, true, false}
-use mathlib.Core.Path.{_≡_, refl, sym, _∙_, ap}
-use mathlib.Core.List.{List, [], _++_, map}
-use lib.Dec.{leb}
-use lib.ListN.{length, take, replicate, length-append, length-replicate}
-use lib.Seq.{take-at}
+use mathlib.Core.Path.{_≡_, _∙_, ap}
+use mathlib.Core.List.{List, []}
 use borrow.Author.Tests.{le-leb, lt-leb}
-use Rattle.rules.specs.Limits.{capacities, pages}
+use Rattle.rules.specs.Limits.{capacities}
 use Rattle.rules.specs.Refusals.{badCapacity}
-use Rattle.rules.specs.declared.Answer.the-variants.{Accepted}
 use Rattle.rules.specs.declared.Page.{Page}
 use Rattle.theory.specs.Policy.{policyOf}
-use Rattle.theory.specs.Plain.{hitsAfter, missesAfter}
-use Rattle.theory.specs.OnePass.{listAfter}
 use Rattle.theory.specs.Order.{policy-order}
-use Rattle.theory.specs.Theorem.{hits-by-depth, hits-and-misses, at-most}
+use Rattle.theory.specs.Theorem.{hits-by-depth, hits-and-misses}
 use Rattle.kept.specs.Tally.{upTo, tally-hits}
 use Rattle.kept.specs.Memory.{lengthAfter, depthsAfter}
 use Rattle.step.specs.Shown.{shownPlaces}
 use Rattle.step.specs.RunLaws.{run-shown}
 use Rattle.session.specs.declared.Session.{Session}
-use Rattle.session.specs.declared.Listing.{Listing}
-use Rattle.session.specs.declared.Asked.{Asked}
 use Rattle.session.specs.declared.Asked.the-variants as asked
-use Rattle.session.specs.History.{acceptedOf, capacityAnswer, hitsNow, missesNow, listNow}
-use Rattle.session.specs.Memory.{Value, Places, Depths, Counting}
+use Rattle.session.specs.History.{acceptedOf, capacityAnswer, hitsNow, missesNow}
+use Rattle.session.specs.Memory.{Value, Depths, Counting}
 use Rattle.session.specs.Reads.{ListRead, HitsRead, MissesRead, askedAs}
 use Rattle.session.specs.ReferLaws.{start-bounds, accepted-below}
 
@@ -65,14 +56,16 @@ module _ {s : Session} {depths : List ℕ} {c : ℕ} where
   hits-high l h = record { hits-are = λ policy k calls v d. high-refused k c (hitsNow policy c calls) l (omega (arith, v .k-is)) }
 
   pub misses-high : 1 ≤ c → s .k < c → MissesRead s depths c (asked.Refused (record { number = badCapacity; place = 0 }))
-  misses-high l h = record { misses-are = λ policy k calls v d. high-refused k c (missesNow policy c calls) l (omega (arith, v .k-is)) }
+  misses-high l h =
+      record { misses-are = λ policy k calls v d. high-refused k c (missesNow policy c calls) l (omega (arith, v .k-is)) }
 
   module _ (l : 1 ≤ c) (h : c ≤ s .k) (total : ℕ) (t : total ≡ upTo depths (min c capacities)) where
     pub hits-done : HitsRead s depths c (asked.Number total)
     hits-done =
         record {
           hits-are =
-              λ policy k calls v d. rw (sum-is-hits v d c total l h t) (answered k c (hitsNow policy c calls) l (omega (arith, v .k-is)));
+              λ policy k calls v d.
+              rw (sum-is-hits v d c total l h t) (answered k c (hitsNow policy c calls) l (omega (arith, v .k-is)));
         }
 
     pub hits-few : Counting s depths → total ≤ s .references
@@ -107,5 +100,6 @@ list-read e =
       length-is = λ policy k calls v p. v .length-is;
       places-are =
           λ policy k calls v p.
-          run-shown policy k (acceptedOf calls) [] (start-bounds policy k (v .started) .high) (accepted-below calls) (v .length-is) (p .places-are) e;
+          run-shown policy k (acceptedOf calls) [] (start-bounds policy k (v .started) .high) (accepted-below calls)
+          (v .length-is) (p .places-are) e;
     }

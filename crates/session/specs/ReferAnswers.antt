@@ -52,7 +52,10 @@ module _ {s : Session} {page : ℕ} {places depths counts : List ℕ} where
   refer-bad h p =
       record {
         answer =
-            λ policy k calls g. rw (lt-leb references (length (acceptedOf calls)) (omega (arith, g .value .references-are)), le-leb pages page p);
+            λ policy k calls g. rw (
+              lt-leb references (length (acceptedOf calls)) (omega (arith, g .value .references-are)),
+              le-leb pages page p,
+            );
         next = λ policy k calls g. same-gives page (accepted-bad calls page (omega (arith, g .value .references-are)) p) g;
       }
 

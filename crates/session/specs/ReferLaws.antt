@@ -1,7 +1,6 @@
 -- What an accepted start says, and which references are accepted: as many as the limit allows, and pages only.
 use Prim.Native.Nat.{ℕ, _≤_, _<_}
 use native.Mathlib.Omega.{arith}
-use mathlib.Core.Bool.{true, false}
 use mathlib.Core.Path.{_≡_, refl}
 use mathlib.Core.List.{List, [], _∷_}
 use lib.Dec.{leb}
@@ -58,14 +57,16 @@ unfolding acceptedOf
 accepted-below [] = tt
 accepted-below (page ∷ calls) =
     three-ways calls page (λ h. rw (accepted-full calls page h) (accepted-below calls))
-    (λ h p. rw (accepted-bad calls page h p) (accepted-below calls)) (λ h p. rw (accepted-next calls page h p) (p, accepted-below calls))
+    (λ h p. rw (accepted-bad calls page h p) (accepted-below calls))
+    (λ h p. rw (accepted-next calls page h p) (p, accepted-below calls))
 
 pub accepted-few : (calls : List ℕ) → length (acceptedOf calls) ≤ references
 unfolding acceptedOf
 accepted-few [] = omega arith
 accepted-few (page ∷ calls) =
     three-ways calls page (λ h. rw (accepted-full calls page h) (accepted-few calls))
-    (λ h p. rw (accepted-bad calls page h p) (accepted-few calls)) (λ h p. rw (accepted-next calls page h p) (omega arith))
+    (λ h p. rw (accepted-bad calls page h p) (accepted-few calls))
+    (λ h p. rw (accepted-next calls page h p) (omega arith))
 
 -- no more pages than the limit, and pages only: all of them are accepted
 pub accepted-all : (calls : List ℕ) → Below pages calls → length calls ≤ references → acceptedOf calls ≡ calls

@@ -68,7 +68,9 @@ pub fn start(
     depths: &mut [u32; DEPTHS],
     counts: &mut [u16; PAGES as usize],
 ) -> Started
-    ensures { λ r. ⌜ Starting policy k (now (places .entry)) (now (depths .entry)) (now (counts .entry)) (now (places .exit)) (now (depths .exit)) (now (counts .exit)) r ⌝ }
+    ensures { λ r. ⌜ Starting policy k
+        (now (places .entry)) (now (depths .entry)) (now (counts .entry))
+        (now (places .exit)) (now (depths .exit)) (now (counts .exit)) r ⌝ }
 {
     if OPT <= policy {
         return Started::Refused(Refusal {
@@ -109,7 +111,9 @@ pub fn refer(
     counts: &mut [u16; PAGES as usize],
 ) -> Referenced
     requires { ⌜ Alive s (now places) (now depths) (now counts) ⌝ }
-    ensures { λ r. ⌜ Referring s (page .0) (now (places .entry)) (now (depths .entry)) (now (counts .entry)) (now (places .exit)) (now (depths .exit)) (now (counts .exit)) r ⌝ }
+    ensures { λ r. ⌜ Referring s (page .0)
+        (now (places .entry)) (now (depths .entry)) (now (counts .entry))
+        (now (places .exit)) (now (depths .exit)) (now (counts .exit)) r ⌝ }
 {
     if REFERENCES <= s.references {
         return Referenced {

@@ -10,7 +10,6 @@ use lib.ListN.{length, take, drop, getD, set, length-take, length-drop, length-a
 use lib.Seq.{take-all, take-suc, drop-cons, set-at, length-take-le}
 use borrow.Author.Tests.{eq-eqb, ne-eqb, eqb-true, eqb-false, lt-ltb, ltb-true, ltb-false, leb-true, leb-false}
 use Rattle.theory.specs.Priority.{Priority}
-use Rattle.theory.specs.OnePass.{depth}
 use Rattle.rules.specs.Cases.{by-cases}
 use Rattle.kept.specs.Entries.{placeEntry}
 use Rattle.step.specs.declared.Carried.{Carried}

@@ -17,7 +17,10 @@ refuse-requires-2 : tie.Need-refuse-requires-2
 refuse-requires-2 c κs = search needs
 
 returns-2 : tie.Need-returns-2
-returns-2 c = rw (c .refuse2 .ensures) (count-short _ _ _ _ _ (c .before .before .before .limits .ensures) (c .before .before .if1 .left) (c .before .if2 .taken))
+returns-2 c =
+    let limited = c .before .before in
+    rw (c .refuse2 .ensures)
+    (count-short _ _ _ _ _ (limited .before .limits .ensures) (limited .if1 .left) (c .before .if2 .taken))
 
 first-bad-requires : tie.Need-first-bad-requires
 first-bad-requires c κs = search needs
@@ -26,19 +29,47 @@ refuse-requires-3 : tie.Need-refuse-requires-3
 refuse-requires-3 c κs = search needs
 
 returns-3 : tie.Need-returns-3
-returns-3 c = rw (c .refuse3 .ensures) (count-bad _ _ _ _ _ (c .before .before .before .before .before .limits .ensures) (c .before .before .before .before .if1 .left) (c .before .before .before .if2 .left) _ (c .before .before .first-bad .ensures) (c .before .if3 .taken))
+returns-3 c =
+    let searched = c .before .before in
+    let roomy = searched .before in
+    let limited = roomy .before in
+    rw (c .refuse3 .ensures)
+    (count-bad _ _ _ _ _ (limited .before .limits .ensures) (limited .if1 .left) (roomy .if2 .left) _
+    (searched .first-bad .ensures) (c .before .if3 .taken))
 
 run-policy-requires : tie.Need-run-policy-requires
-run-policy-requires c κs = count-fit _ (c .before .before .before .before .before .before .before .args .policy) _ _ (c .before .before .before .before .before .before .before .args .hits .now) (c .before .before .before .before .limits .ensures) (c .before .before .before .if1 .left) (c .before .before .if2 .left) _ (c .before .first-bad .ensures) (c .if3 .left)
+run-policy-requires c κs =
+    let searched = c .before in
+    let roomy = searched .before in
+    let limited = roomy .before in
+    let asked = limited .before .before .before .before in
+    count-fit _ (asked .args .policy) _ _ (asked .args .hits .now) (limited .before .limits .ensures) (limited .if1 .left)
+    (roomy .if2 .left) _ (searched .first-bad .ensures) (c .if3 .left)
 
 fill-requires : tie.Need-fill-requires
-fill-requires c κs = count-fillable _ (c .before .before .before .before .before .before .before .before .before .before .before .args .policy) _ _ _ (c .before .before .before .before .before .before .before .before .limits .ensures) (c .before .before .before .before .before .before .before .if1 .left) (c .before .before .before .before .before .before .if2 .left) _ (c .before .before .before .before .before .first-bad .ensures) (c .before .before .before .before .if3 .left) (c .before .before .before .run-policy .ensures)
+fill-requires c κs =
+    let ran = c .before .before .before in
+    let good = ran .before in
+    let searched = good .before in
+    let roomy = searched .before in
+    let limited = roomy .before in
+    let asked = limited .before .before .before .before in
+    count-fillable _ (asked .args .policy) _ _ _ (limited .before .limits .ensures) (limited .if1 .left) (roomy .if2 .left) _
+    (searched .first-bad .ensures) (good .if3 .left) (ran .run-policy .ensures)
 
 same-length : tie.Need-same-length
 same-length c = search needs
 
 returns-4 : tie.Need-returns-4
-returns-4 c = count-done _ _ _ _ _ (c .before .before .before .before .before .before .before .before .before .before .before .limits .ensures) (c .before .before .before .before .before .before .before .before .before .before .if1 .left) (c .before .before .before .before .before .before .before .before .before .if2 .left) _ (c .before .before .before .before .before .before .before .before .first-bad .ensures) (c .before .before .before .before .before .before .before .if3 .left) (c .before .before .before .before .before .before .run-policy .ensures) (c .before .before .fill .ensures)
+returns-4 c =
+    let filled = c .before .before in
+    let ran = filled .before .before .before .before in
+    let good = ran .before in
+    let searched = good .before in
+    let roomy = searched .before in
+    let limited = roomy .before in
+    count-done _ _ _ _ _ (limited .before .limits .ensures) (limited .if1 .left) (roomy .if2 .left) _
+    (searched .first-bad .ensures) (good .if3 .left) (ran .run-policy .ensures) (filled .fill .ensures)
 
 pub count-spec : {M : Type 1} → statement M
 count-spec =

@@ -20,16 +20,33 @@ nothing-requires-2 : tie.Need-nothing-requires-2
 nothing-requires-2 c κs = search needs
 
 returns-2 : tie.Need-returns-2
-returns-2 c = rw (c .nothing2 .ensures) (list-bad _ _ _ _ _ (c .before .before .before .before .limits .ensures) (c .before .before .before .if1 .left) _ (c .before .before .first-bad .ensures) (c .before .if2 .taken))
+returns-2 c =
+    let searched = c .before .before in
+    let limited = searched .before in
+    rw (c .nothing2 .ensures)
+    (list-bad _ _ _ _ _ (limited .before .limits .ensures) (limited .if1 .left) _ (searched .first-bad .ensures)
+    (c .before .if2 .taken))
 
 nothing-requires-3 : tie.Need-nothing-requires-3
 nothing-requires-3 c κs = search needs
 
 returns-3 : tie.Need-returns-3
-returns-3 c = rw (c .nothing3 .ensures) (list-past _ _ _ _ _ (c .before .before .before .before .before .limits .ensures) (c .before .before .before .before .if1 .left) _ (c .before .before .before .first-bad .ensures) (c .before .before .if2 .left) (c .before .if3 .taken))
+returns-3 c =
+    let good = c .before .before in
+    let searched = good .before in
+    let limited = searched .before in
+    rw (c .nothing3 .ensures)
+    (list-past _ _ _ _ _ (limited .before .limits .ensures) (limited .if1 .left) _ (searched .first-bad .ensures)
+    (good .if2 .left) (c .before .if3 .taken))
 
 run-policy-requires : tie.Need-run-policy-requires
-run-policy-requires c κs = list-fit _ (c .before .before .before .before .before .before .args .policy) _ _ _ (c .before .before .before .before .limits .ensures) (c .before .before .before .if1 .left) _ (c .before .before .first-bad .ensures) (c .before .if2 .left) (c .if3 .left)
+run-policy-requires c κs =
+    let good = c .before in
+    let searched = good .before in
+    let limited = searched .before in
+    let asked = limited .before .before .before in
+    list-fit _ (asked .args .policy) _ _ _ (limited .before .limits .ensures) (limited .if1 .left) _
+    (searched .first-bad .ensures) (good .if2 .left) (c .if3 .left)
 
 slice-aggregate-show : tie.Need-slice-aggregate-show
 slice-aggregate-show c = search needs
@@ -38,7 +55,14 @@ show-requires : tie.Need-show-requires
 show-requires c κs = search needs
 
 returns-4 : tie.Need-returns-4
-returns-4 c = list-done _ _ _ _ _ (c .before .before .before .before .before .before .before .before .limits .ensures) (c .before .before .before .before .before .before .before .if1 .left) _ (c .before .before .before .before .before .before .first-bad .ensures) (c .before .before .before .before .before .if2 .left) (c .before .before .before .before .if3 .left) (c .before .before .before .run-policy .ensures) (c .show .ensures)
+returns-4 c =
+    let ran = c .before .before .before in
+    let inside = ran .before in
+    let good = inside .before in
+    let searched = good .before in
+    let limited = searched .before in
+    list-done _ _ _ _ _ (limited .before .limits .ensures) (limited .if1 .left) _ (searched .first-bad .ensures)
+    (good .if2 .left) (inside .if3 .left) (ran .run-policy .ensures) (c .show .ensures)
 
 pub list-spec : {M : Type 1} → statement M
 list-spec =

@@ -19,7 +19,8 @@ refuse-requires-2 c κs = search needs
 returns-2 : tie.Need-returns-2
 returns-2 c =
     let asked = c .before .before .before .before .before .before in
-    rw (c .refuse2 .ensures) (drive-short (asked .pre) (asked .args .trace .now) (asked .args .hits .now) (omega arith) (omega arith))
+    rw (c .refuse2 .ensures)
+    (drive-short (asked .pre) (asked .args .trace .now) (asked .args .hits .now) (omega arith) (omega arith))
 
 refer-all-requires : tie.Need-refer-all-requires
 refer-all-requires c κs = search needs
@@ -29,28 +30,32 @@ refuse-requires-3 c κs = search needs
 
 returns-3 : tie.Need-returns-3
 returns-3 c =
-    let checked = c .before .before .before .before .before in
+    let followed = c .before .before in
+    let checked = followed .before .before .before in
     let asked = checked .before .before .before .before .before .before in
     rw (c .refuse3 .ensures)
-    (drive-bad (asked .pre) (asked .args .trace .now) (asked .args .hits .now) (omega arith) (omega arith) (c .before .before .refer-all .ensures)
-    (omega arith))
+    (drive-bad (asked .pre) (asked .args .trace .now) (asked .args .hits .now) (omega arith) (omega arith)
+    (followed .refer-all .ensures) (omega arith))
 
 read-hits-requires : tie.Need-read-hits-requires
 read-hits-requires c κs =
-    let checked = c .before .before .before .before .before .before in
+    let followed = c .before .before .before in
+    let checked = followed .before .before .before in
     let asked = checked .before .before .before .before .before .before in
     drive-readable (asked .pre) (asked .args .trace .now) (asked .args .hits .now) (omega arith) (omega arith)
-    (c .before .before .before .refer-all .ensures) (omega arith)
+    (followed .refer-all .ensures) (omega arith)
 
 same-length : tie.Need-same-length
 same-length c = search needs
 
 returns-4 : tie.Need-returns-4
 returns-4 c =
-    let checked = c .before .before .before .before .before .before .before .before .before in
+    let filled = c .before .before in
+    let followed = filled .before .before .before .before in
+    let checked = followed .before .before .before in
     let asked = checked .before .before .before .before .before .before in
     drive-done (asked .pre) (asked .args .trace .now) (asked .args .hits .now) (omega arith) (omega arith)
-    (c .before .before .before .before .before .before .refer-all .ensures) (omega arith) (c .before .before .read-hits .ensures)
+    (followed .refer-all .ensures) (omega arith) (filled .read-hits .ensures)
 
 pub drive-spec : {M : Type 1} → statement M
 drive-spec =

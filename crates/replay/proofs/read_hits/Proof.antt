@@ -24,7 +24,9 @@ add-hits : tie.Need-add-hits Inv-loop μ-loop
 add-hits c = search needs
 
 hits-requires : tie.Need-hits-requires Inv-loop μ-loop
-hits-requires c κs = c .before .before .before .before .pre .counting
+hits-requires c κs =
+    let looped = c .before .before in
+    looped .before .before .pre .counting
 
 number-requires : tie.Need-number-requires Inv-loop μ-loop
 number-requires c κs = search needs
@@ -32,13 +34,16 @@ number-requires c κs = search needs
 cast-hits : tie.Need-cast-hits Inv-loop μ-loop
 cast-hits c =
     let looped = c .before .before .before .before in
-    omega (arith, number-fits (omega arith) (c .before .hits .ensures) (c .number .ensures) (looped .before .before .pre .counting))
+    let asked = looped .before .before in
+    omega (arith, number-fits (omega arith) (c .before .hits .ensures) (c .number .ensures) (asked .pre .counting))
 
 mul-hits : tie.Need-mul-hits Inv-loop μ-loop
 mul-hits c = search needs
 
 slice-write-hits : tie.Need-slice-write-hits Inv-loop μ-loop
-slice-write-hits c = omega (arith, c .before .before .before .before .before .before .pre .room)
+slice-write-hits c =
+    let looped = c .before .before .before .before in
+    omega (arith, looped .before .before .pre .room)
 
 add-c : tie.Need-add-c Inv-loop μ-loop
 add-c c = search needs

@@ -9,7 +9,8 @@ use Rattle.replay.proofs.refer_all.Statement.{statement}
 use Rattle.replay.proofs.refer_all.Tie as tie
 
 abbrev Inv-loop : tie.InvT-loop
-Inv-loop trace places₀ depths₀ counts₀ session₀ i₀ places depths counts session i = Along session₀ trace i session places depths counts
+Inv-loop trace places₀ depths₀ counts₀ session₀ i₀ places depths counts session i =
+    Along session₀ trace i session places depths counts
 
 abbrev μ-loop : tie.MeasureT-loop
 μ-loop trace places₀ depths₀ counts₀ session₀ i₀ places depths counts session i = length trace - i
@@ -24,15 +25,19 @@ shared-slice-read-t14 : tie.Need-shared-slice-read-t14 Inv-loop μ-loop
 shared-slice-read-t14 c = search needs
 
 refer-requires : tie.Need-refer-requires Inv-loop μ-loop
-refer-requires c κs = along-alive (c .before .before .before .before .before .loop .inv)
+refer-requires c κs =
+    let looped = c .before .before .before .before .before in
+    along-alive (looped .loop .inv)
 
 was-refused-requires : tie.Need-was-refused-requires Inv-loop μ-loop
 was-refused-requires c κs = search needs
 
 returns : tie.Need-returns Inv-loop μ-loop
 returns c =
-    let looped = c .before .before .before .before .before .before .before .before .before in
-    along-stop (looped .before .before .pre .few) (looped .loop .inv) (omega arith) (c .before .before .before .refer .ensures) (sym (c .before .was-refused .ensures) ∙ c .if1 .taken)
+    let referred = c .before .before .before in
+    let looped = referred .before .before .before .before .before .before in
+    along-stop (looped .before .before .pre .few) (looped .loop .inv) (omega arith) (referred .refer .ensures)
+    (sym (c .before .was-refused .ensures) ∙ c .if1 .taken)
 
 add-i : tie.Need-add-i Inv-loop μ-loop
 add-i c = search needs
@@ -42,8 +47,10 @@ loop-less c = search needs
 
 loop-again : tie.Need-loop-again Inv-loop μ-loop
 loop-again c =
-    let looped = c .before .before .before .before .before .before .before .before .before in
-    along-next (looped .before .before .pre .few) (looped .loop .inv) (omega arith) (c .before .before .before .refer .ensures) (sym (c .before .was-refused .ensures) ∙ c .if1 .left)
+    let referred = c .before .before .before in
+    let looped = referred .before .before .before .before .before .before in
+    along-next (looped .before .before .pre .few) (looped .loop .inv) (omega arith) (referred .refer .ensures)
+    (sym (c .before .was-refused .ensures) ∙ c .if1 .left)
 
 returns-2 : tie.Need-returns-2 Inv-loop μ-loop
 returns-2 c = along-end (c .before .loop .inv) (omega arith)

@@ -20,8 +20,9 @@ drive-requires c κs =
 
 returns : tie.Need-returns
 returns c =
-    let asked = c .before .before .before .before .before .before .before .before .before in
-    replay-refused (c .before .before .before .start .ensures) (asked .args .trace .now) (asked .args .hits .now)
+    let answered = c .before .before .before in
+    let asked = answered .before .before .before .before .before .before in
+    replay-refused (answered .start .ensures) (asked .args .trace .now) (asked .args .hits .now)
     (c .before .started .given .1)
 
 same-length : tie.Need-same-length
@@ -29,10 +30,12 @@ same-length c = search needs
 
 returns-2 : tie.Need-returns-2
 returns-2 c =
-    let known = c .before .before .before .before .before .before .before .before in
-    let asked = known .before .before .before .before .before .before .before .before in
-    replay-driven (known .before .before .start .ensures) (asked .args .trace .now) (asked .args .hits .now)
-    (known .started2 .given .1) (c .before .before .drive .ensures)
+    let driven = c .before .before in
+    let known = driven .before .before .before .before .before .before in
+    let answered = known .before .before in
+    let asked = answered .before .before .before .before .before .before in
+    replay-driven (answered .start .ensures) (asked .args .trace .now) (asked .args .hits .now)
+    (known .started2 .given .1) (driven .drive .ensures)
 
 pub replay-spec : {M : Type 1} → statement M
 replay-spec =

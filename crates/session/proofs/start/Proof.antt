@@ -11,10 +11,19 @@ returns-2 : tie.Need-returns-2
 returns-2 c = start-refused (rw (lt-leb _ _ (c .before .if1 .left), lt-leb _ _ (c .if2 .taken)))
 
 returns-3 : tie.Need-returns-3
-returns-3 c = start-refused (rw (lt-leb _ _ (c .before .before .if1 .left), le-leb _ _ (c .before .if2 .left), lt-leb _ _ (c .if3 .taken)))
+returns-3 c =
+    start-refused
+    (rw (lt-leb _ _ (c .before .before .if1 .left), le-leb _ _ (c .before .if2 .left), lt-leb _ _ (c .if3 .taken)))
 
 returns-4 : tie.Need-returns-4
-returns-4 c = start-begun (rw (lt-leb _ _ (c .before .before .before .before .before .if1 .left), le-leb _ _ (c .before .before .before .before .if2 .left), le-leb _ _ (c .before .before .before .if3 .left)))
+returns-4 c =
+    let checked = c .before .before .before in
+    start-begun
+    (rw (
+      lt-leb _ _ (checked .before .before .if1 .left),
+      le-leb _ _ (checked .before .if2 .left),
+      le-leb _ _ (checked .if3 .left),
+    ))
 
 pub start-spec : {M : Type 1} → statement M
 start-spec = tie.close (tie.spec returns returns-2 returns-3 returns-4)

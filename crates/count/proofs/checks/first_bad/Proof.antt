@@ -24,7 +24,10 @@ shared-slice-read-if1 : tie.Need-shared-slice-read-if1 Inv-loop μ-loop
 shared-slice-read-if1 c = search needs
 
 returns : tie.Need-returns Inv-loop μ-loop
-returns c = sym (c .before .before .before .loop .inv .1 ∙ first-bad-at (c .before .before .before .before .args .trace .now) (c .before .before .before .loop .i) (omega arith) (c .if1 .taken))
+returns c =
+    let looped = c .before .before .before in
+    let trace = looped .before .args .trace .now in
+    sym (looped .loop .inv .1 ∙ first-bad-at trace (looped .loop .i) (omega arith) (c .if1 .taken))
 
 add-i : tie.Need-add-i Inv-loop μ-loop
 add-i c = search needs
@@ -33,10 +36,16 @@ loop-less : tie.Need-loop-less Inv-loop μ-loop
 loop-less c = search needs
 
 loop-again : tie.Need-loop-again Inv-loop μ-loop
-loop-again c = (omega arith, c .before .before .before .loop .inv .1 ∙ first-bad-next (c .before .before .before .before .args .trace .now) (c .before .before .before .loop .i) (omega arith) (c .if1 .left))
+loop-again c =
+    let looped = c .before .before .before in
+    let trace = looped .before .args .trace .now in
+    (omega arith, looped .loop .inv .1 ∙ first-bad-next trace (looped .loop .i) (omega arith) (c .if1 .left))
 
 returns-2 : tie.Need-returns-2 Inv-loop μ-loop
-returns-2 c = sym (c .before .loop .inv .1 ∙ first-bad-end (c .before .before .args .trace .now) (c .before .loop .i) (omega arith))
+returns-2 c =
+    let looped = c .before in
+    let trace = looped .before .args .trace .now in
+    sym (looped .loop .inv .1 ∙ first-bad-end trace (looped .loop .i) (omega arith))
 
 pub first-bad-spec : {M : Type 1} → statement M
 first-bad-spec =

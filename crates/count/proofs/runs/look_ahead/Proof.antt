@@ -34,13 +34,19 @@ shared-slice-read-at : tie.Need-shared-slice-read-at Inv-loop μ-loop
 shared-slice-read-at c = search needs
 
 cast-at : tie.Need-cast-at Inv-loop μ-loop
-cast-at c = omega (arith, ahead-page (c .before .before .before .pre) (c .before .before .loop .i - 1) (omega arith))
+cast-at c =
+    let looped = c .before .before in
+    omega (arith, ahead-page (looped .before .pre) (looped .loop .i - 1) (omega arith))
 
 mul-nexts : tie.Need-mul-nexts Inv-loop μ-loop
-mul-nexts c = omega (arith, ahead-page (c .before .before .before .pre) (c .before .before .loop .i - 1) (omega arith))
+mul-nexts c =
+    let looped = c .before .before in
+    omega (arith, ahead-page (looped .before .pre) (looped .loop .i - 1) (omega arith))
 
 element-copy-out-nexts : tie.Need-element-copy-out-nexts Inv-loop μ-loop
-element-copy-out-nexts c = omega (arith, ahead-page (c .before .before .before .pre) (c .before .before .loop .i - 1) (omega arith))
+element-copy-out-nexts c =
+    let looped = c .before .before in
+    omega (arith, ahead-page (looped .before .pre) (looped .loop .i - 1) (omega arith))
 
 mul-nexts-2 : tie.Need-mul-nexts-2 Inv-loop μ-loop
 mul-nexts-2 c = search needs

@@ -1,6 +1,5 @@
 -- LRU and LFU start with no rank; OPT with what one pass from the trace's end found.
 use Prim.Native.Nat.{ℕ}
-use native.Mathlib.Omega.{arith}
 use mathlib.Core.Path.{refl, sym}
 use lib.ListN.{length-replicate, replicate}
 use borrow.Author.Needs.{needs}
@@ -13,7 +12,9 @@ slice-aggregate-follow : tie.Need-slice-aggregate-follow
 slice-aggregate-follow c = search needs
 
 follow-requires : tie.Need-follow-requires
-follow-requires c κs = back-followable (c .before .before .before .before .pre) (c .before .before .if1 .taken) refl
+follow-requires c κs =
+    let checked = c .before .before in
+    back-followable (checked .before .before .pre) (checked .if1 .taken) refl
 
 returns : tie.Need-returns
 returns c = search needs
@@ -23,14 +24,16 @@ look-ahead-requires c κs = search needs
 
 slice-aggregate-follow-2 : tie.Need-slice-aggregate-follow-2
 slice-aggregate-follow-2 c =
-    let started = c .before .before .before .before .before .before in
-    sym (ahead-length (replicate references 0) (started .pre) (length-replicate {A = ℕ} references 0) (c .before .look-ahead .ensures .0))
+    let looked = c .before in
+    let asked = looked .before .before .before .before .before in
+    sym (ahead-length (replicate references 0) (asked .pre) (length-replicate {A = ℕ} references 0)
+    (looked .look-ahead .ensures .0))
 
 follow-requires-2 : tie.Need-follow-requires-2
 follow-requires-2 c κs =
-    let started = c .before .before .before .before .before .before .before in
-    ahead-followable (replicate references 0) (started .pre) (c .before .before .before .before .before .if1 .left)
-    (c .before .before .look-ahead .ensures)
+    let looked = c .before .before in
+    let checked = looked .before .before .before in
+    ahead-followable (replicate references 0) (checked .before .before .pre) (checked .if1 .left) (looked .look-ahead .ensures)
 
 returns-2 : tie.Need-returns-2
 returns-2 c = search needs

@@ -14,10 +14,17 @@ sum-requires : tie.Need-sum-requires
 sum-requires c κs = search needs
 
 sub-t8 : tie.Need-sub-t8
-sub-t8 c = hits-few (c .before .before .before .before .if1 .left) (c .before .before .if2 .left) (c .before .sum .result) (c .before .sum .ensures) (c .before .before .before .before .before .pre)
+sub-t8 c =
+    let summed = c .before in
+    let checked = summed .before in
+    let asked = checked .before .before .before in
+    hits-few (checked .before .before .if1 .left) (checked .if2 .left) (summed .sum .result) (summed .sum .ensures) (asked .pre)
 
 returns-3 : tie.Need-returns-3
-returns-3 c = misses-done (c .before .before .before .before .if1 .left) (c .before .before .if2 .left) (c .before .sum .result) (c .before .sum .ensures)
+returns-3 c =
+    let summed = c .before in
+    let checked = summed .before in
+    misses-done (checked .before .before .if1 .left) (checked .if2 .left) (summed .sum .result) (summed .sum .ensures)
 
 pub misses-spec : {M : Type 1} → statement M
 misses-spec = tie.close (tie.spec returns returns-2 sum-requires sub-t8 returns-3)

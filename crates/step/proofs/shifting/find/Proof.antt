@@ -30,7 +30,9 @@ add-result : tie.Need-add-result Inv-loop μ-loop
 add-result c = search needs
 
 returns : tie.Need-returns Inv-loop μ-loop
-returns c = found-at (c .before .before .before .loop .i) (c .before .before .before .loop .inv) (omega arith) (c .if1 .taken)
+returns c =
+    let looped = c .before .before .before in
+    found-at (looped .loop .i) (looped .loop .inv) (omega arith) (c .if1 .taken)
 
 add-i : tie.Need-add-i Inv-loop μ-loop
 add-i c = search needs
