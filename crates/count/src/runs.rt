@@ -1,7 +1,7 @@
 // A run over the first references of an accepted trace: the entries of the list, and how often each depth came.
 ghost use Rattle.count.specs.Runs.{Fit, Ran, Followable, LookAhead};
 ghost use Rattle.kept.specs.Nexts.{nexts as «of-nexts», coming};
-ghost use lib.ListN.{length, drop, getD};
+ghost use lib.ListN.{length, drop};
 ghost use mathlib.Core.List.{_++_};
 ghost use mathlib.Core.Path.{_≡_};
 use rules::CAPACITIES;
@@ -30,7 +30,7 @@ pub(crate) fn run_policy(trace: &[u16], policy: u8, k: usize, t: usize) -> Run
     follow(trace, policy, k, t, &nexts, &mut ranks)
 }
 
-// The first `t` references, one after the other. `nexts` has each reference's next rank where the policy looks ahead.
+// The first `t` references. `nexts` has each reference's next rank where the policy looks ahead.
 fn follow(
     trace: &[u16],
     policy: u8,
@@ -45,36 +45,21 @@ fn follow(
     let mut list = [0u32; CAPACITIES];
     let mut depths = [0u32; DEPTHS];
     let mut length = 0;
-    let mut i = 0;
-    while i < t {
-        let next = next_at(nexts, i);
-        step::refer(
-            policy,
-            trace[i],
-            next,
-            &mut length,
-            k,
-            &mut list,
-            &mut depths,
-            ranks,
-        );
-        i += 1;
-    }
+    step::refer_all(
+        policy,
+        k,
+        &trace[..t],
+        nexts,
+        &mut length,
+        &mut list,
+        &mut depths,
+        ranks,
+    );
     Run {
         list,
         length,
         depths,
     }
-}
-
-// The rank that was found ahead for the reference `i`, or 0 where none was looked for.
-fn next_at(nexts: &[u16], i: usize) -> u16
-    ensures { λ r. ⌜ r ≡ getD (now (nexts .entry)) i 0 ⌝ }
-{
-    if i < nexts.len() {
-        return nexts[i];
-    }
-    0
 }
 
 // One pass from the trace's end: for each reference, how near the next one to its page is, counted from that end, 0 if there is

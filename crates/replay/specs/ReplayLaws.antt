@@ -1,6 +1,7 @@
 -- A replay, step by step: a reference, the hit table, the promise answer by answer.
 use Prim.Native.Nat.{ℕ, _+_, _≤_, _<_}
 use native.Mathlib.Omega.{arith}
+use native.Mathlib.Numerals.{add-one}
 use mathlib.Core.Bool.{true, false}
 use mathlib.Core.Path.{_≡_, refl, sym, _∙_, ap, subst₂}
 use mathlib.Core.List.{List, [], _∷_, reverse}
@@ -77,7 +78,7 @@ module _ {s now : Session} {trace places depths counts places′ depths′ count
       let page-fine : getD trace i 0 < pages =
       by-cases (leb pages (getD trace i 0)) (λ e. clash (ap refusedIn (answers true e)) accepted)
       (λ e. leb-false pages (getD trace i 0) e) in
-      let longer : before trace (i + 1) ≡ getD trace i 0 ∷ before trace i = before-next trace i more in
+      let longer : before trace (i + 1) ≡ getD trace i 0 ∷ before trace i = rw (add-one i) (before-next trace i more) in
       record {
         inside = omega arith;
         pages-only = rw longer (page-fine, a .pages-only);

@@ -7,15 +7,13 @@ use lib.ListN.{length}
 use borrow.Author.Tests.{le-leb, lt-leb}
 use Rattle.rules.specs.Limits.{references, pages}
 use Rattle.rules.specs.Refusals.{sessionFull, badPage}
-use Rattle.step.specs.declared.Step.{Step}
-use Rattle.step.specs.Referred.{Referred}
 use Rattle.session.specs.declared.Session.{Session}
 use Rattle.session.specs.declared.Depth.the-variants as answers
 use Rattle.session.specs.History.{acceptedOf}
 use Rattle.session.specs.Memory.{Gives}
 use Rattle.session.specs.Answers.{Referring}
 use Rattle.session.specs.ReferLaws.{accepted-full, accepted-bad}
-use Rattle.session.specs.SessionLaws.{advanced, refer-depth, refer-gives}
+use Rattle.session.specs.SessionLaws.{advanced, OnePage, refer-depth, refer-gives}
 
 -- a refused reference is not part of the history: the same session stands, with one call more
 same-gives : {policy k : ℕ} {calls : List ℕ} {s : Session} {places depths counts : List ℕ} (page : ℕ)
@@ -59,11 +57,11 @@ module _ {s : Session} {page : ℕ} {places depths counts : List ℕ} where
         next = λ policy k calls g. same-gives page (accepted-bad calls page (omega (arith, g .value .references-are)) p) g;
       }
 
-  pub refer-done : s .references < references → page < pages → {places′ depths′ counts′ : List ℕ} {step : Step}
-      → Referred (s .policy) page 0 (s .length) (s .k) places depths counts places′ depths′ counts′ step
+  pub refer-done : s .references < references → page < pages → {places′ depths′ counts′ : List ℕ} {used d : ℕ}
+      → OnePage (s .policy) (s .k) page s places depths counts used places′ depths′ counts′ d
       → Referring s page places depths counts places′ depths′ counts′
-      (record { depth = answers.Accepted (step .depth); session = advanced s step })
-  refer-done room fine {places′} {depths′} {counts′} {step} done =
+      (record { depth = answers.Accepted d; session = advanced s used })
+  refer-done room fine {places′} {depths′} {counts′} {used} {d} done =
       record {
         answer =
             λ policy k calls g. rw (
@@ -75,5 +73,5 @@ module _ {s : Session} {page : ℕ} {places depths counts : List ℕ} where
       }
     where
       by-value : {policy k : ℕ} {calls : List ℕ} → Gives policy k calls s places depths counts
-          → Referred policy page 0 (s .length) k places depths counts places′ depths′ counts′ step
+          → OnePage policy k page s places depths counts used places′ depths′ counts′ d
       by-value g = rw (g .value .policy-is, g .value .k-is) at done

@@ -135,7 +135,19 @@ pub fn refer(
         };
     }
     let mut length = s.length;
-    let depth = step::refer(s.policy, p, 0, &mut length, s.k, places, depths, counts);
+    // LRU and LFU look nothing up
+    let pages = [p];
+    let nexts = [0u16; 1];
+    let depth = step::refer_all(
+        s.policy,
+        s.k,
+        &pages,
+        &nexts,
+        &mut length,
+        places,
+        depths,
+        counts,
+    );
     let next = Session {
         policy: s.policy,
         k: s.k,

@@ -3,6 +3,7 @@
 -- What a reader must believe: what a step, a reference and a shown list promise.
 pub mod Stepped
 pub mod Referred
+pub mod ReferredAll
 pub mod Shown
 -- Two answers that meet a promise are equal:
 pub mod Promises

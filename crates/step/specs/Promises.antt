@@ -1,20 +1,9 @@
--- A reference's promise pins its whole answer and all that is kept after it.
+-- The promise of references pins the whole answer and all that is kept after them.
 use Prim.Native.Nat.{ℕ}
-use mathlib.Core.Path.{_≡_, sym, _∙_, ap}
+use mathlib.Core.Path.{_≡_, sym, _∙_}
 use mathlib.Core.List.{List}
-use Rattle.step.specs.declared.Step.{Step}
-use Rattle.step.specs.Referred.{Referred, depthsThen}
+use Rattle.step.specs.ReferredAll.{RunMemory, ReferredAll}
 
-pub referred-once : {policy page next n k : ℕ} {places depths ranks p₁ d₁ r₁ p₂ d₂ r₂ : List ℕ} {a b : Step}
-    → Referred policy page next n k places depths ranks p₁ d₁ r₁ a → Referred policy page next n k places depths ranks p₂ d₂ r₂ b
-    → (a ≡ b) × (p₁ ≡ p₂) × (d₁ ≡ d₂) × (r₁ ≡ r₂)
-referred-once {depths = depths} x y =
-    let one = x .tallied .stepped in
-    let two = y .tallied .stepped in
-    let depth = one .depth-is ∙ sym (two .depth-is) in
-    let length = one .length-is ∙ sym (two .length-is) in (
-      λ i. record { depth = depth i; length = length i },
-      one .places ∙ sym (two .places),
-      x .tallied .depths-are ∙ ap (λ (d : ℕ). depthsThen d depths) depth ∙ sym (y .tallied .depths-are),
-      x .ranks-are ∙ sym (y .ranks-are),
-    )
+pub referred-once : {policy k : ℕ} {pages nexts : List ℕ} {m m₁ m₂ : RunMemory} {a b : ℕ} → ReferredAll policy k pages nexts m m₁ a
+    → ReferredAll policy k pages nexts m m₂ b → (a ≡ b) × (m₁ ≡ m₂)
+referred-once x y = (x .depth-is ∙ sym (y .depth-is), x .memory-is ∙ sym (y .memory-is))

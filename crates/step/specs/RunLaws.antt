@@ -25,6 +25,7 @@ use Rattle.kept.specs.MemoryLaws.{kept-length, length-most, padded-length, take
 use Rattle.step.specs.declared.Step.{Step}
 use Rattle.step.specs.Stepped.{Stepped, next}
 use Rattle.step.specs.Referred.{depthsThen, largestCount, Referred}
+use Rattle.step.specs.ReferredAll.{RunMemory, depthThen, listThen, memoryThen}
 use Rattle.step.specs.RankLaws.{LooksAhead, rank-before, rank-then, ranks-then}
 use Rattle.step.specs.EntryLengths.{next-grows}
 use Rattle.step.specs.Shown.{shownPlaces, placesOf, shown-all}
@@ -123,12 +124,12 @@ module _ {policy k : ℕ} (low : 1 ≤ k) (high : k ≤ capacities) {page next n
       ) (done .tallied .stepped)
 
   -- the depth that is answered is the depth in the list
-  pub run-depth : s .depth ≡ depth page (listAfter (policyOf policy) k past (page ∷ to))
+  run-depth : s .depth ≡ depth page (listAfter (policyOf policy) k past (page ∷ to))
   unfolding placesAfter
   run-depth = depth-after policy k low high page past to (omega arith) (fits past good) stepped
 
   -- and the memory is that of the run with one reference more
-  pub run-next : Running policy k (page ∷ past) to (s .length) places′ depths′ ranks′
+  run-next : Running policy k (page ∷ past) to (s .length) places′ depths′ ranks′
   unfolding placesAfter
   run-next =
       let small : page < 65536 = omega arith in
@@ -148,6 +149,32 @@ module _ {policy k : ℕ} (low : 1 ≤ k) (high : k ≤ capacities) {page next n
         ranks-are =
             done .ranks-are ∙ rw (run .ranks-are) (ranks-then policy page past to fine good ahead few next looks);
       }
+
+-- the memory is that of a run
+abbrev pub Runs : ℕ → ℕ → List ℕ → List ℕ → RunMemory → Type 0
+Runs policy k past to m = Running policy k past to (m .used) (m .places) (m .depths) (m .ranks)
+
+-- the same of the definition: the depth that it says, and the memory that it leaves
+module _ {policy k : ℕ} (low : 1 ≤ k) (high : k ≤ capacities) {page next : ℕ} {past to : List ℕ} (fine : page < pages)
+    (good : Below pages past) (ahead : Below pages to) (few : length past < references) (looks : LooksAhead policy next page to)
+    {m : RunMemory} (run : Runs policy k past (page ∷ to) m) where
+  abbrev after : RunMemory
+  after = memoryThen policy k page next m
+
+  referred : Referred policy page next (m .used) k (m .places) (m .depths) (m .ranks) (after .places) (after .depths) (after .ranks)
+      (record { depth = depthThen policy page m; length = after .used })
+  unfolding memoryThen listThen depthThen
+  referred =
+      record {
+        tallied = record { stepped = record { places = refl; depth-is = refl; length-is = refl }; depths-are = refl };
+        ranks-are = refl;
+      }
+
+  pub then-depth : depthThen policy page m ≡ depth page (listAfter (policyOf policy) k past (page ∷ to))
+  then-depth = run-depth low high fine good ahead few looks run referred
+
+  pub then-runs : Runs policy k (page ∷ past) to (memoryThen policy k page next m)
+  then-runs = run-next low high fine good ahead few looks run referred
 
 -- the list of a run is shown; this asks of the memory only what it looks at
 pub run-shown : (policy k : ℕ) (past to : List ℕ) {n : ℕ} {places : List ℕ} {shown : List Page} → k ≤ capacities

@@ -17,7 +17,7 @@ mod shown;
 
 pub use depths::DEPTHS;
 pub use depths::sum;
-pub use reference::refer;
+pub use reference::refer_all;
 pub use shown::show;
 
 // What a reference answers: the depth at which the old entry stood, or 0; and the places in use after it.

@@ -1,9 +1,12 @@
-// One reference to all that is kept of a run, by the policy's number: the step that whole traces and sessions share. It takes
-// any memory and any numbers, so nobody has to have checked them.
+// References to all that is kept of a run, by the policy's number: the loop and the step that whole traces and sessions share, a
+// session with one page at a time. They take any memory and any numbers, so nobody has to have checked them. The step is called in
+// one place only, so that the compiler can put it into the loop.
 ghost use Prim.Native.Nat.{_+_, min};
 ghost use mathlib.Core.Path.{_≡_};
 ghost use Rattle.kept.specs.Entries.{entry as «entry-of», always};
 ghost use Rattle.step.specs.Referred.{rankIn, rankStored, nextRank, largestRank, Tallied, Ranked, Referred};
+ghost use Rattle.step.specs.ReferredAll.{runMemory, ReferredAll};
+ghost use lib.ListN.{getD};
 use crate::DEPTHS;
 use crate::Step;
 use crate::depths::count_depth;
@@ -97,30 +100,63 @@ fn refer_ranked(
     s
 }
 
-// A reference to a page, in a list of `n` places that may grow to `k`: the answer is its depth, which is counted, and its rank is kept.
-// The two kinds of policy share no code after the test, and the length is lent: a call then costs a few instructions where a struct of
-// two numbers would go through memory.
-pub fn refer(
+// A reference to a page, in a list of `n` places that may grow to `k`.
+fn refer(
     policy: u8,
     page: u16,
     next: u16,
-    n: &mut usize,
+    n: usize,
     k: usize,
     places: &mut [u32; CAPACITIES],
     depths: &mut [u32; DEPTHS],
     ranks: &mut [u16; PAGES as usize],
-) -> usize
-    ensures { λ r. ⌜ Referred policy page next (now (n .entry)) k
+) -> Step
+    ensures { λ r. ⌜ Referred policy page next n k
         (now (places .entry)) (now (depths .entry)) (now (ranks .entry))
-        (now (places .exit)) (now (depths .exit)) (now (ranks .exit)) (record { depth = r; length = now (n .exit) }) ⌝ }
+        (now (places .exit)) (now (depths .exit)) (now (ranks .exit)) r ⌝ }
 {
-    let used = *n;
     if policy == LRU {
-        let s = refer_unranked(page, used, k, places, depths);
-        *n = s.length;
-        return s.depth;
+        return refer_unranked(page, n, k, places, depths);
     }
-    let s = refer_ranked(policy, page, next, used, k, places, depths, ranks);
-    *n = s.length;
-    s.depth
+    refer_ranked(policy, page, next, n, k, places, depths, ranks)
+}
+
+// What was found ahead for the reference `i`, or 0 where nothing was looked for.
+fn next_at(nexts: &[u16], i: usize) -> u16
+    ensures { λ r. ⌜ r ≡ getD (now (nexts .entry)) i 0 ⌝ }
+{
+    if i < nexts.len() {
+        return nexts[i];
+    }
+    0
+}
+
+// References to pages, one after the other, in a list of `n` places that may grow to `k`: each depth is counted, each rank is kept,
+// and the answer is the last depth. `nexts` has each reference's next rank where the policy looks ahead.
+pub fn refer_all(
+    policy: u8,
+    k: usize,
+    pages: &[u16],
+    nexts: &[u16],
+    n: &mut usize,
+    places: &mut [u32; CAPACITIES],
+    depths: &mut [u32; DEPTHS],
+    ranks: &mut [u16; PAGES as usize],
+) -> usize
+    ensures { λ r. ⌜ ReferredAll policy k (now (pages .entry)) (now (nexts .entry))
+        (runMemory (now (n .entry)) (now (places .entry)) (now (depths .entry)) (now (ranks .entry)))
+        (runMemory (now (n .exit)) (now (places .exit)) (now (depths .exit)) (now (ranks .exit))) r ⌝ }
+{
+    let mut length = *n;
+    let mut depth = 0;
+    let mut i = 0;
+    while i < pages.len() {
+        let next = next_at(nexts, i);
+        let s = refer(policy, pages[i], next, length, k, places, depths, ranks);
+        length = s.length;
+        depth = s.depth;
+        i += 1;
+    }
+    *n = length;
+    depth
 }

@@ -4,8 +4,8 @@ use native.Mathlib.Omega.{arith}
 use mathlib.Core.Path.{sym}
 use lib.ListN.{List·getD-eq-default}
 use borrow.Author.Needs.{needs}
-use Rattle.count.proofs.runs.next_at.Statement.{statement}
-use Rattle.count.proofs.runs.next_at.Tie as tie
+use Rattle.step.proofs.reference.next_at.Statement.{statement}
+use Rattle.step.proofs.reference.next_at.Tie as tie
 
 mul-result : tie.Need-mul-result
 mul-result c = search needs
