@@ -6,12 +6,9 @@ use mathlib.Core.Path.{_≡_, refl, sym, _∙_, ap}
 use mathlib.Core.List.{List, [], _∷_, _++_, append-assoc}
 use lib.ListN.{length, take, drop, getD, set, replicate, take-append-drop, length-append, length-drop, List·getD-append}
 use lib.Seq.{take-suc, drop-cons, set-at, drop-length, length-take-le}
-use borrow.Author.Tests.{ne-eqb}
-use Rattle.rules.specs.Limits.{references, pages, lru, lfu, opt}
+use Rattle.rules.specs.Limits.{references, pages, opt}
 use Rattle.theory.specs.Policy.{nearness}
 use Rattle.kept.specs.Nexts.{coming, coming-is, nexts, nexts-at, nexts-length}
-use Rattle.kept.specs.Memory.{ranksAfter}
-use Rattle.kept.specs.MemoryLaws.{no-ranks}
 use Rattle.count.specs.Runs.{Fit, Followable, LookAhead}
 use Rattle.count.specs.RunLaws.{below-at, below-drop}
 
@@ -20,20 +17,20 @@ pub record Ahead (trace memory : List ℕ) (i : ℕ) (found near : List ℕ) : T
   pub found-is : found ≡ take i memory ++ (nexts (drop i trace) ++ drop (length trace) memory)
   pub near-is : near ≡ coming (drop i trace)
 
-pub ahead-start : {trace memory near : List ℕ} → LookAhead trace memory near → Ahead trace memory (length trace) memory near
+pub ahead-start : {trace memory near : List ℕ} → near ≡ replicate pages 0 → Ahead trace memory (length trace) memory near
 unfolding nexts coming
-ahead-start {trace} {memory} asked =
+ahead-start {trace} {memory} clear =
     record {
       left = omega arith;
       found-is = rw (drop-length trace) (sym (take-append-drop (length trace) memory));
-      near-is = rw (drop-length trace) (asked .clear);
+      near-is = rw (drop-length trace) clear;
     }
 
-pub ahead-page : {trace memory clear : List ℕ} → LookAhead trace memory clear → (j : ℕ) → j < length trace
+pub ahead-page : {trace memory : List ℕ} → LookAhead trace memory → (j : ℕ) → j < length trace
     → getD trace j 0 < pages
 ahead-page {trace} asked j h = below-at pages trace j (asked .good) h
 
-module _ {trace memory clear found near : List ℕ} (asked : LookAhead trace memory clear) where
+module _ {trace memory found near : List ℕ} (asked : LookAhead trace memory) where
   ahead-step : (j : ℕ) → suc j ≤ length trace → Ahead trace memory (suc j) found near
       → Ahead trace memory j (set found j (getD near (getD trace j 0) 0)) (set near (getD trace j 0) (length trace - suc j + 1))
   unfolding nexts coming
@@ -68,31 +65,26 @@ module _ {trace memory clear found near : List ℕ} (asked : LookAhead trace mem
       one-less j = omega arith
 
 pub ahead-end : {trace memory found near : List ℕ} (i : ℕ) → i ≤ 0 → Ahead trace memory i found near
-    → (found ≡ nexts trace ++ drop (length trace) memory) × (near ≡ coming trace)
-ahead-end zero h a = (a .found-is, a .near-is)
+    → found ≡ nexts trace ++ drop (length trace) memory
+ahead-end zero h a = a .found-is
 ahead-end (suc i) h a = absurd (omega arith)
 
--- LRU and LFU start with no rank and look up nothing
-pub back-followable : {trace nexts ranks : List ℕ} {policy k t : ℕ} → Fit trace k t → policy < opt → ranks ≡ replicate pages 0
-    → Followable trace policy k t nexts ranks
-back-followable {trace} {policy = policy} fit back e =
-    record {
-      fit = fit;
-      ranks-are = e ∙ no-ranks policy back trace;
-      looks = λ i h not-lru not-lfu. absurd (not-lfu (omega (arith, not-lru)));
-    }
+-- LRU and LFU look up nothing
+pub back-followable : {trace nexts : List ℕ} {policy k t : ℕ} → Fit trace k t → policy < opt → Followable trace policy k t nexts
+back-followable fit back = record { fit = fit; looks = λ i h not-lru not-lfu. absurd (not-lfu (omega (arith, not-lru))) }
 
--- OPT starts with what one pass from the trace's end has found
-pub ahead-followable : (memory : List ℕ) {trace found near : List ℕ} {policy k t : ℕ} → Fit trace k t → opt ≤ policy
-    → (found ≡ nexts trace ++ drop (length trace) memory) × (near ≡ coming trace) → Followable trace policy k t found near
-unfolding ranksAfter
-ahead-followable memory {trace} {policy = policy} fit ahead e =
+-- OPT has what one pass from the trace's end has found
+pub ahead-followable : (memory : List ℕ) {trace found : List ℕ} {policy k t : ℕ} → Fit trace k t
+    → found ≡ nexts trace ++ drop (length trace) memory → Followable trace policy k t found
+ahead-followable memory {trace} fit e =
     record {
       fit = fit;
-      ranks-are = e .1 ∙ rw (ne-eqb policy lru (λ q. omega arith), ne-eqb policy lfu (λ q. omega arith));
-      looks = λ i h not-lru not-lfu.
-          rw (e .0, List·getD-append (nexts trace) (drop (length trace) memory) 0 i (omega (arith, nexts-length trace)))
-          (nexts-at trace i h);
+      looks = λ i h not-lru not-lfu. record {
+        near-is = rw (length-drop (suc i) trace) (omega arith);
+        next-is =
+            rw (e, List·getD-append (nexts trace) (drop (length trace) memory) 0 i (omega (arith, nexts-length trace)))
+            (nexts-at trace i h);
+      };
     }
 
 -- as many ranks stand there as before

@@ -38,32 +38,35 @@ below-drop n (suc i) (z ∷ l) h = below-drop n i l (h .1)
 pub before-length : (trace : List ℕ) (i : ℕ) → i ≤ length trace → length (before trace i) ≡ i
 before-length trace i h = rw (length-reverse (take i trace), length-take i trace) (omega arith)
 
-module _ {trace nexts ranks : List ℕ} {policy k t : ℕ} (asked : Followable trace policy k t nexts ranks) where
+module _ {trace nexts : List ℕ} {policy k t : ℕ} (asked : Followable trace policy k t nexts) where
   -- before the first reference
   abbrev start : RunMemory
-  start = runMemory 0 (replicate capacities 0) (replicate (suc capacities) 0) ranks
+  start = runMemory 0 (replicate capacities 0) (replicate (suc capacities) 0) (replicate pages 0)
+
+  abbrev after : ℕ → RunMemory
+  after i = memoryAfter policy k (take t trace) nexts (length trace) start i
 
   -- after i of them, with the rest of the trace still to come
-  runs-so-far : (i : ℕ) → i ≤ t → Runs policy k (before trace i) (drop i trace) (memoryAfter policy k (take t trace) nexts start i)
+  runs-so-far : (i : ℕ) → i ≤ t → Runs policy k (before trace i) (drop i trace) (after i)
   unfolding memoryAfter
-  runs-so-far zero h = run-start policy k trace (asked .ranks-are)
+  runs-so-far zero h = run-start policy k trace refl
   runs-so-far (suc i) h =
       let fit = asked .fit in
       let inside : i < length trace = omega (arith, fit .within) in
       let here : drop i trace ≡ getD trace i 0 ∷ drop (suc i) trace = drop-cons trace i 0 inside in
       let few : length (before trace i) < references = omega (arith, before-length trace i (omega arith), fit .short) in
       rw (getD-take t trace i 0 (omega arith), before-next trace i inside)
-      (then-runs (fit .low) (fit .high) (below-at pages trace i (fit .good) inside) (before-below pages trace i (fit .good))
-      (below-drop pages (suc i) trace (fit .good)) few (asked .looks i inside) (rw here at (runs-so-far i (omega arith))))
+      (then-runs (fit .low) (fit .high) (below-at pages trace i (fit .good) inside) (before-below pages trace i (fit .good)) few
+      (asked .looks i inside) (rw here at (runs-so-far i (omega arith))))
 
-  pub followed : {n d : ℕ} {list depths ranks′ : List ℕ}
-      → ReferredAll policy k (take t trace) nexts start (runMemory n list depths ranks′) d
+  pub followed : {n d left : ℕ} {list depths counts : List ℕ} → left ≡ length trace
+      → ReferredAll policy k (take t trace) nexts left start (runMemory n list depths counts) d
       → Ran policy trace k t (record { list = list; length = n; depths = depths })
-  followed {n} {d} {list} {depths} {ranks′} done =
+  followed {n} {d} {left} {list} {depths} {counts} whole done =
       let all : length (take t trace) ≡ t = length-take-le t trace (asked .fit .within) in
-      let same : runMemory n list depths ranks′ ≡ memoryAfter policy k (take t trace) nexts start t = rw all at (done .memory-is) in
+      let same : runMemory n list depths counts ≡ after t = rw (whole, all) at (done .memory-is) in
       record {
-        ranks = ranks′;
+        counts = counts;
         running =
             subst (λ (m : RunMemory). Runs policy k (before trace t) (drop t trace) m) (sym same) (runs-so-far t (omega arith));
       }

@@ -1,11 +1,11 @@
 -- What a run over the first references of a trace asks and gives.
-use Prim.Native.Nat.{ℕ, suc, _≤_, _<_}
+use Prim.Native.Nat.{ℕ, suc, _-_, _≤_, _<_}
 use mathlib.Core.Path.{_≡_}
-use mathlib.Core.List.{List, [], reverse}
-use lib.ListN.{length, take, drop, getD, replicate}
+use mathlib.Core.List.{List, reverse}
+use lib.ListN.{length, take, drop, getD}
 use Rattle.rules.specs.Limits.{capacities, references, pages}
 use Rattle.kept.specs.Below.{Below}
-use Rattle.kept.specs.Memory.{ranksAfter, Running}
+use Rattle.kept.specs.Memory.{Running}
 use Rattle.step.specs.RankLaws.{LooksAhead}
 use Rattle.count.specs.declared.runs.Run.{Run}
 
@@ -23,18 +23,16 @@ pub record Fit (trace : List ℕ) (k t : ℕ) : Type 0 where
 
 -- the run after t references, with the rest of the trace still to come
 pub record Ran (policy : ℕ) (trace : List ℕ) (k t : ℕ) (r : Run) : Type 0 where
-  pub ranks : List ℕ
-  pub running : Running policy k (before trace t) (drop t trace) (r .length) (r .list) (r .depths) ranks
+  pub counts : List ℕ
+  pub running : Running policy k (before trace t) (drop t trace) (r .length) (r .list) (r .depths) counts
 
--- before the first reference: the ranks are those of the run's start, and each reference's next rank was found if the policy
--- asks for it
-pub record Followable (trace : List ℕ) (policy k t : ℕ) (nexts ranks : List ℕ) : Type 0 where
+-- before the first reference: each reference's next rank was found, if the policy asks for it
+pub record Followable (trace : List ℕ) (policy k t : ℕ) (nexts : List ℕ) : Type 0 where
   pub fit : Fit trace k t
-  pub ranks-are : ranks ≡ ranksAfter policy [] trace
-  pub looks : (i : ℕ) → i < length trace → LooksAhead policy (getD nexts i 0) (getD trace i 0) (drop (suc i) trace)
+  pub looks : (i : ℕ) → i < length trace
+      → LooksAhead policy (length trace - i) (getD nexts i 0) (getD trace i 0) (drop (suc i) trace)
 
-pub record LookAhead (trace nexts near : List ℕ) : Type 0 where
+pub record LookAhead (trace nexts : List ℕ) : Type 0 where
   pub short : length trace ≤ references
   pub good : Below pages trace
   pub room : length nexts ≡ references
-  pub clear : near ≡ replicate pages 0

@@ -6,14 +6,13 @@ use mathlib.Core.Path.{_≡_}
 use mathlib.Core.List.{List, _++_}
 use lib.Dec.{eqb}
 use lib.ListN.{length, replicate}
-use Rattle.rules.specs.Limits.{capacities, pages, lru, lfu}
+use Rattle.rules.specs.Limits.{capacities, pages, lfu}
 use Rattle.theory.specs.Policy.{policyOf}
 use Rattle.theory.specs.OnePass.{listAfter}
 use Rattle.kept.specs.Rankings.{rankingOf}
 use Rattle.kept.specs.Kept.{kept}
 use Rattle.kept.specs.Tally.{tally}
 use Rattle.kept.specs.Frequencies.{frequencies}
-use Rattle.kept.specs.Nexts.{coming}
 
 -- so many places are in use
 unfoldable pub lengthAfter : ℕ → ℕ → List ℕ → List ℕ → ℕ
@@ -31,14 +30,13 @@ placesAfter policy k past to = padded (kept (rankingOf policy) (policyOf policy)
 unfoldable pub depthsAfter : ℕ → ℕ → List ℕ → List ℕ → List ℕ
 depthsAfter policy k past to = tally (policyOf policy) k past to
 
--- the rank of each page: LRU keeps none, LFU how often it was referenced, OPT how near its next reference is
-unfoldable pub ranksAfter : ℕ → List ℕ → List ℕ → List ℕ
-ranksAfter policy past to =
-    cond (eqb policy lru) (replicate pages 0) (cond (eqb policy lfu) (frequencies past) (coming to))
+-- how often each page was referenced: LFU ranks by it, LRU and OPT keep nothing of the kind
+unfoldable pub countsAfter : ℕ → List ℕ → List ℕ
+countsAfter policy past = cond (eqb policy lfu) (frequencies past) (replicate pages 0)
 
--- the memory is that of a run: so many places in use, the entries, the depths, the ranks
-pub record Running (policy k : ℕ) (past to : List ℕ) (n : ℕ) (places depths ranks : List ℕ) : Type 0 where
+-- the memory is that of a run: so many places in use, the entries, the depths, the counts
+pub record Running (policy k : ℕ) (past to : List ℕ) (n : ℕ) (places depths counts : List ℕ) : Type 0 where
   pub length-is : n ≡ lengthAfter policy k past to
   pub places-are : places ≡ placesAfter policy k past to
   pub depths-are : depths ≡ depthsAfter policy k past to
-  pub ranks-are : ranks ≡ ranksAfter policy past to
+  pub counts-are : counts ≡ countsAfter policy past

@@ -1,4 +1,4 @@
--- Laws of what code keeps of a run: what stands behind a list in memory, and what the table of ranks says of a page.
+-- Laws of what code keeps of a run: what stands behind a list in memory, and what a run under LRU or LFU does not depend on.
 use Prim.Native.Nat.{ℕ, zero, suc, _+_, _-_, _≤_, _<_}
 use native.Mathlib.Omega.{arith}
 use mathlib.Core.Bool.{true, false}
@@ -22,7 +22,7 @@ use Rattle.kept.specs.Tally.{zeros-at}
 use Rattle.kept.specs.Frequencies.{frequencies, frequency-is}
 use Rattle.kept.specs.Nexts.{coming-is}
 use Rattle.kept.specs.PastOnly.{list-past-only, tally-past-only, policy-past-only, ranking-past-only}
-use Rattle.kept.specs.Memory.{lengthAfter, padded, placesAfter, depthsAfter, ranksAfter, Running}
+use Rattle.kept.specs.Memory.{lengthAfter, padded, placesAfter, depthsAfter, countsAfter, Running}
 
 -- as many places are in use as there are entries, and no more than k
 pub kept-length : (ranking : Ranking) (policy k : ℕ) (past to : List ℕ)
@@ -70,20 +70,10 @@ padded-over l m longer fits =
     ∙ drop-zeros (capacities - length l) further ∙ ap (λ (i : ℕ). replicate {A = ℕ} i 0) left in
     ap (λ (tail : List ℕ). m ++ tail) behind
 
--- the table has each page's rank
-pub rank-at : (policy : ℕ) (past to : List ℕ) → Below pages past → Below pages to → (p : ℕ)
-    → getD (ranksAfter policy past to) p 0 ≡ rankingOf policy past to p
-unfolding ranksAfter rankingOf unranked frequency sooner
-rank-at policy past to hp ht p =
-    by-cases (eqb policy lru) (λ e. rw e (zeros-at pages p))
-    (λ e. by-cases (eqb policy lfu) (λ d. rw (e, d) (frequency-is past hp p)) (λ d. rw (e, d) (coming-is to ht p)))
-
--- LRU and LFU start with no rank
-pub no-ranks : (policy : ℕ) → policy < opt → (to : List ℕ) → replicate pages 0 ≡ ranksAfter policy [] to
-unfolding ranksAfter frequencies
-no-ranks policy back to =
-    by-cases (eqb policy lru) (λ e. rw e)
-    (λ e. rw (e, eq-eqb policy lfu (omega (arith, eqb-false policy lru e))))
+-- every policy starts with no page counted
+pub no-counts : (policy : ℕ) → replicate pages 0 ≡ countsAfter policy []
+unfolding countsAfter frequencies
+no-counts policy = by-cases (eqb policy lfu) (λ e. rw e) (λ e. rw e)
 
 -- under LRU and LFU what is still to come changes nothing
 module _ (policy : ℕ) (back : policy < opt) (past to to′ : List ℕ) where
@@ -103,21 +93,12 @@ module _ (policy : ℕ) (back : policy < opt) (past to to′ : List ℕ) where
   unfolding depthsAfter
   depths-past-only k = tally-past-only (policyOf policy) (policy-past-only policy back) k past to to′
 
-  pub ranks-past-only : ranksAfter policy past to ≡ ranksAfter policy past to′
-  unfolding ranksAfter
-  ranks-past-only =
-      by-cases (eqb policy lru) (λ e. rw e)
-      (λ e. rw (e, lfu-left e))
-    where
-      lfu-left : eqb policy lru ≡ false → eqb policy lfu ≡ true
-      lfu-left e = eq-eqb policy lfu (omega (arith, eqb-false policy lru e))
-
-  pub running-past-only : {k n : ℕ} {places depths ranks : List ℕ} → Running policy k past to n places depths ranks
-      → Running policy k past to′ n places depths ranks
+  pub running-past-only : {k n : ℕ} {places depths counts : List ℕ} → Running policy k past to n places depths counts
+      → Running policy k past to′ n places depths counts
   running-past-only {k} run =
       record {
         length-is = run .length-is ∙ length-past-only k;
         places-are = run .places-are ∙ places-past-only k;
         depths-are = run .depths-are ∙ depths-past-only k;
-        ranks-are = run .ranks-are ∙ ranks-past-only;
+        counts-are = run .counts-are;
       }

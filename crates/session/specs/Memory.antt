@@ -5,7 +5,7 @@ use mathlib.Core.Path.{_≡_}
 use mathlib.Core.List.{List, []}
 use lib.ListN.{length}
 use Rattle.rules.specs.declared.Answer.the-variants.{Accepted}
-use Rattle.kept.specs.Memory.{placesAfter, depthsAfter, ranksAfter}
+use Rattle.kept.specs.Memory.{placesAfter, depthsAfter, countsAfter}
 use Rattle.session.specs.declared.Session.{Session}
 use Rattle.session.specs.History.{startAnswer, acceptedOf, listNow}
 
@@ -27,7 +27,7 @@ pub record Depths (policy k : ℕ) (calls depths : List ℕ) : Type 0 where
 
 -- how often each page was referenced; LRU does not count
 pub record Counts (policy : ℕ) (calls counts : List ℕ) : Type 0 where
-  pub counts-are : counts ≡ ranksAfter policy (acceptedOf calls) []
+  pub counts-are : counts ≡ countsAfter policy (acceptedOf calls)
 
 -- the session and its tables are those that a start with policy and k and these calls give
 pub record Gives (policy k : ℕ) (calls : List ℕ) (s : Session) (places depths counts : List ℕ) : Type 0 where

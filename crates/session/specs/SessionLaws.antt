@@ -32,13 +32,13 @@ running g =
       length-is = g .value .length-is;
       places-are = g .list .places-are;
       depths-are = g .tallied .depths-are;
-      ranks-are = g .counted .counts-are;
+      counts-are = g .counted .counts-are;
     }
 
 -- one page, with nothing found ahead
 abbrev pub OnePage : ℕ → ℕ → ℕ → Session → List ℕ → List ℕ → List ℕ → ℕ → List ℕ → List ℕ → List ℕ → ℕ → Type 0
 OnePage policy k page s places depths counts used places′ depths′ counts′ d =
-    ReferredAll policy k (page ∷ []) (0 ∷ []) (runMemory (s .length) places depths counts) (runMemory used places′ depths′ counts′) d
+    ReferredAll policy k (page ∷ []) (0 ∷ []) 0 (runMemory (s .length) places depths counts) (runMemory used places′ depths′ counts′) d
 
 module _ {policy k : ℕ} {calls : List ℕ} {s : Session} {places depths counts : List ℕ} (g : Gives policy k calls s places depths counts)
     (page : ℕ) (room : s .references < references) (fine : page < pages) {places′ depths′ counts′ : List ℕ} {used d : ℕ}
@@ -56,21 +56,21 @@ module _ {policy k : ℕ} {calls : List ℕ} {s : Session} {places depths counts
   told : Running policy k past (page ∷ []) (s .length) places depths counts
   told = running-past-only policy (bounds .session) past [] (page ∷ []) (running g)
 
-  looks : LooksAhead policy 0 page []
+  looks : LooksAhead policy 0 0 page []
   looks not-lru not-lfu = absurd (not-lfu (omega (arith, not-lru, bounds .session)))
 
   pub refer-depth : d ≡ depth page (listNow policy k calls)
   unfolding depthAfter memoryAfter
   refer-depth =
       done .depth-is
-      ∙ then-depth (bounds .low) (bounds .high) fine (accepted-below calls) tt few looks told
+      ∙ then-depth (bounds .low) (bounds .high) fine (accepted-below calls) few looks told
       ∙ ap (depth page) (list-past-only (policyOf policy) (policy-past-only policy (bounds .session)) k past (page ∷ []) [])
 
   runs : Runs policy k (page ∷ past) [] (runMemory used places′ depths′ counts′)
   unfolding memoryAfter
   runs =
       subst (λ (m : RunMemory). Runs policy k (page ∷ past) [] m) (sym (done .memory-is))
-      (then-runs (bounds .low) (bounds .high) fine (accepted-below calls) tt few looks told)
+      (then-runs (bounds .low) (bounds .high) fine (accepted-below calls) few looks told)
 
   pub refer-gives : Gives policy k (page ∷ calls) (advanced s used) places′ depths′ counts′
   unfolding lengthAfter
@@ -87,5 +87,5 @@ module _ {policy k : ℕ} {calls : List ℕ} {s : Session} {places depths counts
             };
         list = record { places-are = rw now (runs .places-are) };
         tallied = record { depths-are = rw now (runs .depths-are) };
-        counted = record { counts-are = rw now (runs .ranks-are) };
+        counted = record { counts-are = rw now (runs .counts-are) };
       }

@@ -11,14 +11,12 @@ use Rattle.rules.specs.Cases.{by-cases}
 use Rattle.rules.specs.declared.Answer.the-variants.{Accepted}
 use Rattle.theory.specs.OnePass.{listAfter}
 use Rattle.kept.specs.Memory.{lengthAfter}
-use Rattle.kept.specs.MemoryLaws.{no-ranks}
 use Rattle.step.specs.RunLaws.{run-start}
 use Rattle.session.specs.declared.Started.{Started}
 use Rattle.session.specs.declared.Started.the-variants as started
 use Rattle.session.specs.History.{startAnswer, acceptedOf}
 use Rattle.session.specs.Memory.{Gives}
 use Rattle.session.specs.Answers.{Starting, fresh}
-use Rattle.session.specs.ReferLaws.{start-bounds}
 
 pub start-refused : {policy k number : ℕ} {places depths counts : List ℕ} → startAnswer policy k ≡ refusal number 0
     → Starting policy k places depths counts places depths counts (started.Refused (record { number = number; place = 0 }))
@@ -35,10 +33,10 @@ pub start-gives : {policy k : ℕ} {places depths counts places′ depths′ cou
     → Gives policy k [] (fresh policy k) places′ depths′ counts′
 unfolding acceptedOf lengthAfter listAfter
 start-gives {policy} {k} p e =
-    let run = run-start policy k [] (p .counts-are ∙ rw e (no-ranks policy (start-bounds policy k e .session) [])) in
+    let run = run-start policy k [] (p .counts-are ∙ rw e) in
     record {
       value = record { started = e; policy-is = refl; k-is = refl; length-is = refl; references-are = refl };
       list = record { places-are = p .places-are ∙ rw e (run .places-are) };
       tallied = record { depths-are = p .depths-are ∙ rw e (run .depths-are) };
-      counted = record { counts-are = run .ranks-are };
+      counted = record { counts-are = run .counts-are };
     }

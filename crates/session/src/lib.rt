@@ -143,6 +143,7 @@ pub fn refer(
         s.k,
         &pages,
         &nexts,
+        0,
         &mut length,
         places,
         depths,

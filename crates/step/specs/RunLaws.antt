@@ -20,13 +20,13 @@ use Rattle.kept.specs.Rankings.{rankingOf, shownOf}
 use Rattle.kept.specs.Kept.{kept, kept-step, depth-entry}
 use Rattle.kept.specs.KeptPolicies.{keeps}
 use Rattle.kept.specs.Tally.{tally, bump, tally-most}
-use Rattle.kept.specs.Memory.{lengthAfter, padded, placesAfter, depthsAfter, ranksAfter, Running}
-use Rattle.kept.specs.MemoryLaws.{kept-length, length-most, padded-length, take-padded, padded-over}
+use Rattle.kept.specs.Memory.{lengthAfter, padded, placesAfter, depthsAfter, Running}
+use Rattle.kept.specs.MemoryLaws.{kept-length, length-most, padded-length, take-padded, padded-over, no-counts}
 use Rattle.step.specs.declared.Step.{Step}
 use Rattle.step.specs.Stepped.{Stepped, next}
 use Rattle.step.specs.Referred.{depthsThen, largestCount, Referred}
 use Rattle.step.specs.ReferredAll.{RunMemory, depthThen, listThen, memoryThen}
-use Rattle.step.specs.RankLaws.{LooksAhead, rank-before, rank-then, ranks-then}
+use Rattle.step.specs.RankLaws.{LooksAhead, rank-before, rank-then, counts-then}
 use Rattle.step.specs.EntryLengths.{next-grows}
 use Rattle.step.specs.Shown.{shownPlaces, placesOf, shown-all}
 
@@ -38,10 +38,10 @@ pub fits : (past : List ℕ) → Below pages past → Fits past
 fits past h = below-mono pages 65536 past (omega arith) h
 
 -- a run begins with nothing in its list and every depth at 0
-pub run-start : (policy k : ℕ) (to : List ℕ) {ranks : List ℕ} → ranks ≡ ranksAfter policy [] to
-    → Running policy k [] to 0 (replicate capacities 0) (replicate (suc capacities) 0) ranks
+pub run-start : (policy k : ℕ) (to : List ℕ) {counts : List ℕ} → counts ≡ replicate pages 0
+    → Running policy k [] to 0 (replicate capacities 0) (replicate (suc capacities) 0) counts
 unfolding lengthAfter placesAfter padded depthsAfter kept listAfter tally
-run-start policy k to e = record { length-is = refl; places-are = refl; depths-are = refl; ranks-are = e }
+run-start policy k to e = record { length-is = refl; places-are = refl; depths-are = refl; counts-are = e ∙ no-counts policy }
 
 -- the list and the depth after a reference, in memory that holds the run's entries
 module _ (policy k : ℕ) (low : 1 ≤ k) (high : k ≤ capacities) (page : ℕ) (past to : List ℕ) (fine : page < 65536)
@@ -104,12 +104,11 @@ depths-after policy k d past to h few =
     omega (arith, tally-most (policyOf policy) k d past to) in
     rw (lt-ltb d (suc capacities) (omega arith), came)
 
-module _ {policy k : ℕ} (low : 1 ≤ k) (high : k ≤ capacities) {page next n : ℕ} {past to : List ℕ} (fine : page < pages)
-    (good : Below pages past)
-    (ahead : Below pages to) (few : length past < references) (looks : LooksAhead policy next page to)
-    {places depths ranks places′ depths′ ranks′ : List ℕ} {s : Step}
-    (run : Running policy k past (page ∷ to) n places depths ranks)
-    (done : Referred policy page next n k places depths ranks places′ depths′ ranks′ s) where
+module _ {policy k : ℕ} (low : 1 ≤ k) (high : k ≤ capacities) {page near next n : ℕ} {past to : List ℕ} (fine : page < pages)
+    (good : Below pages past) (few : length past < references) (looks : LooksAhead policy near next page to)
+    {places depths counts places′ depths′ counts′ : List ℕ} {s : Step}
+    (run : Running policy k past (page ∷ to) n places depths counts)
+    (done : Referred policy page near next n k places depths counts places′ depths′ counts′ s) where
   stepped : Stepped (shownOf policy) k
       (entry (rankingOf policy past (page ∷ to)) page) (entry (rankingOf policy (page ∷ past) to) page)
       (lengthAfter policy k past (page ∷ to)) (placesAfter policy k past (page ∷ to)) places′ s
@@ -118,9 +117,9 @@ module _ {policy k : ℕ} (low : 1 ≤ k) (high : k ≤ capacities) {page next n
       rw (
         ← run .length-is,
         ← run .places-are,
-        ← rank-before policy page past to fine good ahead,
-        ← rank-then policy page past to fine good ahead few next looks,
-        ← run .ranks-are,
+        ← rank-before policy page past to fine good near next looks,
+        ← rank-then policy page past to fine good near next looks few,
+        ← run .counts-are,
       ) (done .tallied .stepped)
 
   -- the depth that is answered is the depth in the list
@@ -129,7 +128,7 @@ module _ {policy k : ℕ} (low : 1 ≤ k) (high : k ≤ capacities) {page next n
   run-depth = depth-after policy k low high page past to (omega arith) (fits past good) stepped
 
   -- and the memory is that of the run with one reference more
-  run-next : Running policy k (page ∷ past) to (s .length) places′ depths′ ranks′
+  run-next : Running policy k (page ∷ past) to (s .length) places′ depths′ counts′
   unfolding placesAfter
   run-next =
       let small : page < 65536 = omega arith in
@@ -144,37 +143,37 @@ module _ {policy k : ℕ} (low : 1 ≤ k) (high : k ≤ capacities) {page next n
         length-is = length-after policy k low high page past to small (fits past good) stepped;
         places-are = places-after policy k low high page past to small (fits past good) stepped;
         depths-are =
-            done .tallied .depths-are ∙ rw (run .depths-are, depths-after policy k (s .depth) past (page ∷ to) shallow few)
+            done .tallied .depths-are
+            ∙ rw (run .depths-are, depths-after policy k (s .depth) past (page ∷ to) shallow few)
             (unfold depthsAfter tally in rw run-depth);
-        ranks-are =
-            done .ranks-are ∙ rw (run .ranks-are) (ranks-then policy page past to fine good ahead few next looks);
+        counts-are = done .counts-are ∙ rw (run .counts-are) (counts-then policy page past to fine good few);
       }
 
 -- the memory is that of a run
 abbrev pub Runs : ℕ → ℕ → List ℕ → List ℕ → RunMemory → Type 0
-Runs policy k past to m = Running policy k past to (m .used) (m .places) (m .depths) (m .ranks)
+Runs policy k past to m = Running policy k past to (m .used) (m .places) (m .depths) (m .counts)
 
 -- the same of the definition: the depth that it says, and the memory that it leaves
-module _ {policy k : ℕ} (low : 1 ≤ k) (high : k ≤ capacities) {page next : ℕ} {past to : List ℕ} (fine : page < pages)
-    (good : Below pages past) (ahead : Below pages to) (few : length past < references) (looks : LooksAhead policy next page to)
+module _ {policy k : ℕ} (low : 1 ≤ k) (high : k ≤ capacities) {page near next : ℕ} {past to : List ℕ} (fine : page < pages)
+    (good : Below pages past) (few : length past < references) (looks : LooksAhead policy near next page to)
     {m : RunMemory} (run : Runs policy k past (page ∷ to) m) where
   abbrev after : RunMemory
-  after = memoryThen policy k page next m
+  after = memoryThen policy k page near next m
 
-  referred : Referred policy page next (m .used) k (m .places) (m .depths) (m .ranks) (after .places) (after .depths) (after .ranks)
-      (record { depth = depthThen policy page m; length = after .used })
+  referred : Referred policy page near next (m .used) k (m .places) (m .depths) (m .counts)
+      (after .places) (after .depths) (after .counts) (record { depth = depthThen policy page near m; length = after .used })
   unfolding memoryThen listThen depthThen
   referred =
       record {
         tallied = record { stepped = record { places = refl; depth-is = refl; length-is = refl }; depths-are = refl };
-        ranks-are = refl;
+        counts-are = refl;
       }
 
-  pub then-depth : depthThen policy page m ≡ depth page (listAfter (policyOf policy) k past (page ∷ to))
-  then-depth = run-depth low high fine good ahead few looks run referred
+  pub then-depth : depthThen policy page near m ≡ depth page (listAfter (policyOf policy) k past (page ∷ to))
+  then-depth = run-depth low high fine good few looks run referred
 
-  pub then-runs : Runs policy k (page ∷ past) to (memoryThen policy k page next m)
-  then-runs = run-next low high fine good ahead few looks run referred
+  pub then-runs : Runs policy k (page ∷ past) to (memoryThen policy k page near next m)
+  then-runs = run-next low high fine good few looks run referred
 
 -- the list of a run is shown; this asks of the memory only what it looks at
 pub run-shown : (policy k : ℕ) (past to : List ℕ) {n : ℕ} {places : List ℕ} {shown : List Page} → k ≤ capacities

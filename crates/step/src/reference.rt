@@ -1,12 +1,12 @@
 // References to all that is kept of a run, by the policy's number: the loop and the step that whole traces and sessions share, a
 // session with one page at a time. They take any memory and any numbers, so nobody has to have checked them. The step is called in
 // one place only, so that the compiler can put it into the loop.
-ghost use Prim.Native.Nat.{_+_, min};
+ghost use Prim.Native.Nat.{_-_};
 ghost use mathlib.Core.Path.{_≡_};
-ghost use Rattle.kept.specs.Entries.{entry as «entry-of», always};
-ghost use Rattle.step.specs.Referred.{rankIn, rankStored, nextRank, largestRank, Tallied, Ranked, Referred};
-ghost use Rattle.step.specs.ReferredAll.{runMemory, ReferredAll};
 ghost use lib.ListN.{getD};
+ghost use Rattle.kept.specs.Entries.{entry as «entry-of», always};
+ghost use Rattle.step.specs.Referred.{countIn, countStored, countsKept, oneMore, rankNow, rankNext, Tallied, Ranked, Referred};
+ghost use Rattle.step.specs.ReferredAll.{runMemory, ReferredAll};
 use crate::DEPTHS;
 use crate::Step;
 use crate::depths::count_depth;
@@ -20,28 +20,29 @@ use rules::PAGES;
 
 const LARGEST_RANK: u16 = 65535;
 
-// The rank that is kept of a page; a number that is no page has none.
-fn rank_of(ranks: &[u16; PAGES as usize], page: u16) -> u16
-    ensures { λ r. ⌜ r ≡ rankIn (now (ranks .entry)) page ⌝ }
+// How often a page was referenced; a number that is no page never was.
+fn count_of(counts: &[u16; PAGES as usize], page: u16) -> u16
+    ensures { λ r. ⌜ r ≡ countIn (now (counts .entry)) page ⌝ }
 {
     if page < PAGES {
-        return ranks[page as usize];
+        return counts[page as usize];
     }
     0
 }
 
-// Keeps the rank of a page, and of nothing else.
-fn keep_rank(ranks: &mut [u16; PAGES as usize], page: u16, rank: u16)
-    ensures { λ _. ⌜ now (ranks .exit) ≡ rankStored page rank (now (ranks .entry)) ⌝ }
+// LFU ranks by the count; OPT was told.
+fn rank_now(policy: u8, page: u16, near: u16, counts: &[u16; PAGES as usize]) -> u16
+    ensures { λ r. ⌜ r ≡ rankNow policy page near (now (counts .entry)) ⌝ }
 {
-    if page < PAGES {
-        ranks[page as usize] = rank;
+    if policy == LFU {
+        return count_of(counts, page);
     }
+    near
 }
 
 // The rank of the referenced page from now on.
-fn next_rank(policy: u8, rank: u16, next: u16) -> u16
-    ensures { λ r. ⌜ r ≡ nextRank policy rank next ⌝ }
+fn rank_next(policy: u8, rank: u16, next: u16) -> u16
+    ensures { λ r. ⌜ r ≡ rankNext policy rank next ⌝ }
 {
     if policy == LFU {
         return more(rank);
@@ -50,16 +51,34 @@ fn next_rank(policy: u8, rank: u16, next: u16) -> u16
 }
 
 // One more, as far as the number goes.
-fn more(rank: u16) -> u16
-    ensures { λ r. ⌜ r ≡ min (rank + 1) largestRank ⌝ }
+fn more(count: u16) -> u16
+    ensures { λ r. ⌜ r ≡ oneMore count ⌝ }
 {
-    if rank < LARGEST_RANK {
-        return rank + 1;
+    if count < LARGEST_RANK {
+        return count + 1;
     }
     LARGEST_RANK
 }
 
-// Under LRU the list shifts, and no rank is kept.
+// Keeps the count of a page, and of nothing else.
+fn keep_count(counts: &mut [u16; PAGES as usize], page: u16, count: u16)
+    ensures { λ _. ⌜ now (counts .exit) ≡ countStored page count (now (counts .entry)) ⌝ }
+{
+    if page < PAGES {
+        counts[page as usize] = count;
+    }
+}
+
+// LFU alone keeps what it counts.
+fn keep_rank(policy: u8, counts: &mut [u16; PAGES as usize], page: u16, rank: u16)
+    ensures { λ _. ⌜ now (counts .exit) ≡ countsKept policy page rank (now (counts .entry)) ⌝ }
+{
+    if policy == LFU {
+        keep_count(counts, page, rank);
+    }
+}
+
+// Under LRU the list shifts, and no rank is asked for.
 fn refer_unranked(
     page: u16,
     n: usize,
@@ -79,20 +98,21 @@ fn refer_unranked(
 fn refer_ranked(
     policy: u8,
     page: u16,
+    near: u16,
     next: u16,
     n: usize,
     k: usize,
     places: &mut [u32; CAPACITIES],
     depths: &mut [u32; DEPTHS],
-    ranks: &mut [u16; PAGES as usize],
+    counts: &mut [u16; PAGES as usize],
 ) -> Step
-    ensures { λ r. ⌜ Ranked policy page next n k
-        (now (places .entry)) (now (depths .entry)) (now (ranks .entry))
-        (now (places .exit)) (now (depths .exit)) (now (ranks .exit)) r ⌝ }
+    ensures { λ r. ⌜ Ranked policy page near next n k
+        (now (places .entry)) (now (depths .entry)) (now (counts .entry))
+        (now (places .exit)) (now (depths .exit)) (now (counts .exit)) r ⌝ }
 {
-    let rank = rank_of(ranks, page);
-    let then = next_rank(policy, rank, next);
-    keep_rank(ranks, page, then);
+    let rank = rank_now(policy, page, near, counts);
+    let then = rank_next(policy, rank, next);
+    keep_rank(policy, counts, page, then);
     let old = entry(rank, page);
     let new = entry(then, page);
     let s = place(places, n, k, old, new);
@@ -104,21 +124,22 @@ fn refer_ranked(
 fn refer(
     policy: u8,
     page: u16,
+    near: u16,
     next: u16,
     n: usize,
     k: usize,
     places: &mut [u32; CAPACITIES],
     depths: &mut [u32; DEPTHS],
-    ranks: &mut [u16; PAGES as usize],
+    counts: &mut [u16; PAGES as usize],
 ) -> Step
-    ensures { λ r. ⌜ Referred policy page next n k
-        (now (places .entry)) (now (depths .entry)) (now (ranks .entry))
-        (now (places .exit)) (now (depths .exit)) (now (ranks .exit)) r ⌝ }
+    ensures { λ r. ⌜ Referred policy page near next n k
+        (now (places .entry)) (now (depths .entry)) (now (counts .entry))
+        (now (places .exit)) (now (depths .exit)) (now (counts .exit)) r ⌝ }
 {
     if policy == LRU {
         return refer_unranked(page, n, k, places, depths);
     }
-    refer_ranked(policy, page, next, n, k, places, depths, ranks)
+    refer_ranked(policy, page, near, next, n, k, places, depths, counts)
 }
 
 // What was found ahead for the reference `i`, or 0 where nothing was looked for.
@@ -131,28 +152,51 @@ fn next_at(nexts: &[u16], i: usize) -> u16
     0
 }
 
-// References to pages, one after the other, in a list of `n` places that may grow to `k`: each depth is counted, each rank is kept,
-// and the answer is the last depth. `nexts` has each reference's next rank where the policy looks ahead.
+// How many references are left from the reference `i` on.
+fn left_at(left: u16, i: usize) -> u16
+    ensures { λ r. ⌜ r ≡ left - i ⌝ }
+{
+    if i < left as usize {
+        return left - (i as u16);
+    }
+    0
+}
+
+// References to pages, one after the other, in a list of `n` places that may grow to `k`: each depth is counted, and the answer is the
+// last one. Where the policy looks ahead, `left` is how many references the trace has from the first of these on, and `nexts` has
+// each one's next rank.
 pub fn refer_all(
     policy: u8,
     k: usize,
     pages: &[u16],
     nexts: &[u16],
+    left: u16,
     n: &mut usize,
     places: &mut [u32; CAPACITIES],
     depths: &mut [u32; DEPTHS],
-    ranks: &mut [u16; PAGES as usize],
+    counts: &mut [u16; PAGES as usize],
 ) -> usize
-    ensures { λ r. ⌜ ReferredAll policy k (now (pages .entry)) (now (nexts .entry))
-        (runMemory (now (n .entry)) (now (places .entry)) (now (depths .entry)) (now (ranks .entry)))
-        (runMemory (now (n .exit)) (now (places .exit)) (now (depths .exit)) (now (ranks .exit))) r ⌝ }
+    ensures { λ r. ⌜ ReferredAll policy k (now (pages .entry)) (now (nexts .entry)) left
+        (runMemory (now (n .entry)) (now (places .entry)) (now (depths .entry)) (now (counts .entry)))
+        (runMemory (now (n .exit)) (now (places .exit)) (now (depths .exit)) (now (counts .exit))) r ⌝ }
 {
     let mut length = *n;
     let mut depth = 0;
     let mut i = 0;
     while i < pages.len() {
+        let near = left_at(left, i);
         let next = next_at(nexts, i);
-        let s = refer(policy, pages[i], next, length, k, places, depths, ranks);
+        let s = refer(
+            policy,
+            pages[i],
+            near,
+            next,
+            length,
+            k,
+            places,
+            depths,
+            counts,
+        );
         length = s.length;
         depth = s.depth;
         i += 1;

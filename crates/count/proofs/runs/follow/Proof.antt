@@ -1,10 +1,14 @@
 -- The references lent are the first of the trace, and what they leave is the run after them.
-use mathlib.Core.Path.{sym}
+use native.Mathlib.Omega.{arith}
+use mathlib.Core.Path.{refl, sym}
 use lib.Seq.{length-take-le}
 use borrow.Author.Needs.{needs}
 use Rattle.count.specs.RunLaws.{followed}
 use Rattle.count.proofs.runs.follow.Statement.{statement}
 use Rattle.count.proofs.runs.follow.Tie as tie
+
+cast-left : tie.Need-cast-left
+cast-left c = omega (arith, c .before .before .pre .fit .short)
 
 slice-aggregate-refer-all : tie.Need-slice-aggregate-refer-all
 slice-aggregate-refer-all c =
@@ -17,7 +21,7 @@ refer-all-requires c κs = search needs
 returns : tie.Need-returns
 returns c =
     let asked = c .before .before .before .before .before .before .before .before in
-    followed (asked .pre) (c .refer-all .ensures)
+    followed (asked .pre) refl (c .refer-all .ensures)
 
 pub follow-spec : {M : Type 1} → statement M
-follow-spec = tie.close (tie.spec slice-aggregate-refer-all refer-all-requires returns)
+follow-spec = tie.close (tie.spec cast-left slice-aggregate-refer-all refer-all-requires returns)

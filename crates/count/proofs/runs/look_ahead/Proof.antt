@@ -1,28 +1,29 @@
 -- The loop's invariant: what the backward pass has found when i references are left.
 use Prim.Native.Nat.{_-_}
 use native.Mathlib.Omega.{arith}
+use mathlib.Core.Path.{refl}
 use borrow.Author.Needs.{needs}
 use Rattle.count.specs.OptLaws.{Ahead, ahead-start, ahead-next, ahead-end, ahead-page}
 use Rattle.count.proofs.runs.look_ahead.Statement.{statement}
 use Rattle.count.proofs.runs.look_ahead.Tie as tie
 
 abbrev Inv-loop : tie.InvT-loop
-Inv-loop trace nexts₀ near₀ i₀ nexts near i = Ahead trace nexts₀ i nexts near
+Inv-loop trace nexts₀ coming₀ i₀ nexts coming i = Ahead trace nexts₀ i nexts coming
 
 abbrev μ-loop : tie.MeasureT-loop
-μ-loop trace nexts₀ near₀ i₀ nexts near i = i
+μ-loop trace nexts₀ coming₀ i₀ nexts coming i = i
 
 loop-holds : tie.Need-loop-holds Inv-loop μ-loop
-loop-holds c = ahead-start (c .pre)
+loop-holds c = ahead-start refl
 
-sub-from-end : tie.Need-sub-from-end Inv-loop μ-loop
-sub-from-end c = search needs
+sub-near : tie.Need-sub-near Inv-loop μ-loop
+sub-near c = search needs
 
-add-from-end : tie.Need-add-from-end Inv-loop μ-loop
-add-from-end c = search needs
+add-near : tie.Need-add-near Inv-loop μ-loop
+add-near c = search needs
 
-cast-from-end : tie.Need-cast-from-end Inv-loop μ-loop
-cast-from-end c = search needs
+cast-near : tie.Need-cast-near Inv-loop μ-loop
+cast-near c = search needs
 
 sub-i : tie.Need-sub-i Inv-loop μ-loop
 sub-i c = search needs
@@ -43,8 +44,8 @@ mul-nexts c =
     let looped = c .before .before in
     omega (arith, ahead-page (looped .before .pre) (looped .loop .i - 1) (omega arith))
 
-element-copy-out-nexts : tie.Need-element-copy-out-nexts Inv-loop μ-loop
-element-copy-out-nexts c =
+array-read-nexts : tie.Need-array-read-nexts Inv-loop μ-loop
+array-read-nexts c =
     let looped = c .before .before in
     omega (arith, ahead-page (looped .before .pre) (looped .loop .i - 1) (omega arith))
 
@@ -54,14 +55,14 @@ mul-nexts-2 c = search needs
 element-write-nexts : tie.Need-element-write-nexts Inv-loop μ-loop
 element-write-nexts c = search needs
 
-mul-near : tie.Need-mul-near Inv-loop μ-loop
-mul-near c =
-    let looped = c .before .before .before in
+mul-coming : tie.Need-mul-coming Inv-loop μ-loop
+mul-coming c =
+    let looped = c .before .before in
     omega (arith, ahead-page (looped .before .pre) (looped .loop .i - 1) (omega arith))
 
-element-write-near : tie.Need-element-write-near Inv-loop μ-loop
-element-write-near c =
-    let looped = c .before .before .before in
+array-write-coming : tie.Need-array-write-coming Inv-loop μ-loop
+array-write-coming c =
+    let looped = c .before .before in
     omega (arith, ahead-page (looped .before .pre) (looped .loop .i - 1) (omega arith))
 
 loop-less : tie.Need-loop-less Inv-loop μ-loop
@@ -69,8 +70,8 @@ loop-less c = search needs
 
 loop-again : tie.Need-loop-again Inv-loop μ-loop
 loop-again c =
-    let looped = c .before .before .before in
-    ahead-next (looped .before .pre) (looped .loop .i) (c .before .before .loop-test .taken) (looped .loop .inv)
+    let looped = c .before .before in
+    ahead-next (looped .before .pre) (looped .loop .i) (c .before .loop-test .taken) (looped .loop .inv)
 
 returns : tie.Need-returns Inv-loop μ-loop
 returns c = ahead-end (c .before .loop .i) (omega arith) (c .before .loop .inv)
@@ -82,19 +83,19 @@ look-ahead-spec =
     Inv-loop
     μ-loop
     loop-holds
-    sub-from-end
-    add-from-end
-    cast-from-end
+    sub-near
+    add-near
+    cast-near
     sub-i
     mul-at
     shared-slice-read-at
     cast-at
     mul-nexts
-    element-copy-out-nexts
+    array-read-nexts
     mul-nexts-2
     element-write-nexts
-    mul-near
-    element-write-near
+    mul-coming
+    array-write-coming
     loop-less
     loop-again
     returns)

@@ -1,6 +1,6 @@
--- LRU and LFU start with no rank; OPT with what one pass from the trace's end found.
+-- LRU and LFU look nothing up; OPT has what one pass from the trace's end found.
 use Prim.Native.Nat.{ℕ}
-use mathlib.Core.Path.{refl, sym}
+use mathlib.Core.Path.{sym}
 use lib.ListN.{length-replicate, replicate}
 use borrow.Author.Needs.{needs}
 use Rattle.rules.specs.Limits.{references}
@@ -13,8 +13,8 @@ slice-aggregate-follow c = search needs
 
 follow-requires : tie.Need-follow-requires
 follow-requires c κs =
-    let checked = c .before .before in
-    back-followable (checked .before .before .pre) (checked .if1 .taken) refl
+    let checked = c .before in
+    back-followable (checked .before .before .pre) (checked .if1 .taken)
 
 returns : tie.Need-returns
 returns c = search needs
@@ -25,15 +25,15 @@ look-ahead-requires c κs = search needs
 slice-aggregate-follow-2 : tie.Need-slice-aggregate-follow-2
 slice-aggregate-follow-2 c =
     let looked = c .before in
-    let asked = looked .before .before .before .before .before in
+    let asked = looked .before .before .before .before in
     sym (ahead-length (replicate references 0) (asked .pre) (length-replicate {A = ℕ} references 0)
-    (looked .look-ahead .ensures .0))
+    (looked .look-ahead .ensures))
 
 follow-requires-2 : tie.Need-follow-requires-2
 follow-requires-2 c κs =
-    let looked = c .before .before in
-    let checked = looked .before .before .before in
-    ahead-followable (replicate references 0) (checked .before .before .pre) (checked .if1 .left) (looked .look-ahead .ensures)
+    let looked = c .before in
+    let asked = looked .before .before .before .before in
+    ahead-followable (replicate references 0) (asked .pre) (looked .look-ahead .ensures)
 
 returns-2 : tie.Need-returns-2
 returns-2 c = search needs

@@ -10,15 +10,18 @@ use Rattle.step.proofs.reference.refer_all.Statement.{statement}
 use Rattle.step.proofs.reference.refer_all.Tie as tie
 
 abbrev Inv-loop : tie.InvT-loop
-Inv-loop policy k pages nexts n places₀ depths₀ ranks₀ used₀ depth₀ i₀ places depths ranks used depth i =
-    Done policy k pages nexts (runMemory used₀ places₀ depths₀ ranks₀) i depth (runMemory used places depths ranks)
+Inv-loop policy k pages nexts left n places₀ depths₀ counts₀ used₀ depth₀ i₀ places depths counts used depth i =
+    Done policy k pages nexts left (runMemory used₀ places₀ depths₀ counts₀) i depth (runMemory used places depths counts)
     × (i ≤ length pages)
 
 abbrev μ-loop : tie.MeasureT-loop
-μ-loop policy k pages nexts n places₀ depths₀ ranks₀ used₀ depth₀ i₀ places depths ranks used depth i = length pages - i
+μ-loop policy k pages nexts left n places₀ depths₀ counts₀ used₀ depth₀ i₀ places depths counts used depth i = length pages - i
 
 loop-holds : tie.Need-loop-holds Inv-loop μ-loop
 loop-holds c = (none-done, omega arith)
+
+left-at-requires : tie.Need-left-at-requires Inv-loop μ-loop
+left-at-requires c κs = search needs
 
 next-at-requires : tie.Need-next-at-requires Inv-loop μ-loop
 next-at-requires c κs = search needs
@@ -40,9 +43,9 @@ loop-less c = search needs
 
 loop-again : tie.Need-loop-again Inv-loop μ-loop
 loop-again c =
-    let looped = c .before .before .before .before .before .before .before in
     let found = c .before .before .before .before .before in
-    (one-done (looped .loop .inv .0) refl (found .next-at .ensures) (c .refer .ensures), omega arith)
+    let looped = found .before .before .before in
+    (one-done (looped .loop .inv .0) refl (found .before .left-at .ensures) (found .next-at .ensures) (c .refer .ensures), omega arith)
 
 returns : tie.Need-returns Inv-loop μ-loop
 returns c = all-done (c .before .loop .inv .0) (omega arith)
@@ -54,6 +57,7 @@ refer-all-spec =
     Inv-loop
     μ-loop
     loop-holds
+    left-at-requires
     next-at-requires
     mul-refer
     shared-slice-read-refer

@@ -4,11 +4,11 @@ use Rattle.step.proofs.ReferredLaws.{ranked}
 use Rattle.step.proofs.reference.refer_ranked.Statement.{statement}
 use Rattle.step.proofs.reference.refer_ranked.Tie as tie
 
-rank-of-requires : tie.Need-rank-of-requires
-rank-of-requires c κs = search needs
+rank-now-requires : tie.Need-rank-now-requires
+rank-now-requires c κs = search needs
 
-next-rank-requires : tie.Need-next-rank-requires
-next-rank-requires c κs = search needs
+rank-next-requires : tie.Need-rank-next-requires
+rank-next-requires c κs = search needs
 
 keep-rank-requires : tie.Need-keep-rank-requires
 keep-rank-requires c κs = search needs
@@ -31,15 +31,15 @@ returns c =
     let entered = placed .before .before in
     let kept = entered .before .before in
     let looked = kept .before .before in
-    ranked (looked .before .rank-of .ensures) (looked .next-rank .ensures) (kept .keep-rank .ensures)
+    ranked (looked .before .rank-now .ensures) (looked .rank-next .ensures) (kept .keep-rank .ensures)
     (entered .before .entry .ensures) (entered .entry2 .ensures) (placed .place .ensures) (c .count-depth .ensures)
 
 pub refer-ranked-spec : {M : Type 1} → statement M
 refer-ranked-spec =
     tie.close
     (tie.spec
-    rank-of-requires
-    next-rank-requires
+    rank-now-requires
+    rank-next-requires
     keep-rank-requires
     entry-requires
     entry-requires-2
