@@ -11,8 +11,11 @@ use lib.Seq.{drop-cons, take-all, take-at, set-at, getD-at}
 use borrow.Author.Tests.{eq-eqb, ne-eqb}
 use Rattle.theory.specs.Priority.{Priority, higher, lower}
 use Rattle.theory.specs.OnePass.{carry, depth, depthFrom}
+use Rattle.rules.specs.Cases.{clash}
+use Rattle.kept.specs.Entries.{larger}
 use Rattle.step.specs.declared.Carried.{Carried}
-use Rattle.step.specs.Stepped.{Carrying}
+use Rattle.step.specs.declared.Walked.{Walked}
+use Rattle.step.specs.Stepped.{AtPlace, Carrying}
 
 -- after i places of `before` the list is `now`, and `carried` is in hand
 pub record Walk (above : Priority) (old first : ℕ) (before : List ℕ) (carried i : ℕ) (now : List ℕ) : Type 0 where
@@ -128,3 +131,35 @@ module _ {above : Priority} {old first : ℕ} {before : List ℕ} where
 
         full : length (w .done) ≡ length before
         full = omega (arith, w .done-length, w .inside)
+
+-- what the code does at a place is what the walk asks for
+pub place-hit : {old carried i : ℕ} {before : List ℕ} → getD before i 0 ≡ old
+    → AtPlace old carried i before (set before i carried) (record { found = true; carried = carried })
+place-hit {carried = carried} {i} {before} e =
+    record { long = length-set before i carried; hit = λ yes. (e, refl); miss = λ never. clash refl never }
+
+pub place-miss : {old carried i stays sinks : ℕ} {before : List ℕ} → (getD before i 0 ≡ old → ⊥)
+    → stays ≡ higher larger carried (getD before i 0) → sinks ≡ lower larger carried (getD before i 0)
+    → AtPlace old carried i before (set before i stays) (record { found = false; carried = sinks })
+place-miss {i = i} {stays} {before = before} other s t =
+    record { long = length-set before i stays; hit = λ never. clash never refl; miss = λ yes. (other, rw s, t) }
+
+-- the code's walk, a place at a time
+module _ {old first carried i : ℕ} {before now after : List ℕ} {r : Walked} (w : Walk larger old first before carried i now)
+    (h : i < length before) (at : AtPlace old carried i now after r) where
+  pub walk-on : r .found ≡ false → Walk larger old first before (r .carried) (i + 1) after
+  walk-on missing =
+      let missed = at .miss missing in
+      rw (missed .1, missed .2) (walk-next w h (missed .0))
+
+  pub walk-stop : r .found ≡ true → (c : Carried) → c .depth ≡ i + 1 → c .last ≡ 0 → Carrying larger old first before after c
+  walk-stop found c d l =
+      let here = at .hit found in
+      rw (here .1) (walk-found w h c (here .0) d l)
+
+-- two places are one and one more
+pub two-on : (i : ℕ) {above : Priority} {old first carried : ℕ} {before now : List ℕ} → Walk above old first before carried (i + 1 + 1) now
+    → Walk above old first before carried (i + 2) now
+two-on i w =
+    let two : i + 1 + 1 ≡ i + 2 = omega arith in
+    rw two at w

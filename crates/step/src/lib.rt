@@ -5,10 +5,11 @@ mod shifting;
 
 use shifting::find;
 use shifting::shift_down;
-ghost use Rattle.step.specs.Stepped.{Carrying, Placed, Settled, Stepped};
+ghost use Rattle.step.specs.Stepped.{AtPlace, Carrying, Placed, Settled, Stepped};
 ghost use Rattle.kept.specs.Entries.{entry as «entry-of», larger, always};
 ghost use Rattle.theory.specs.Priority.{higher as «of-higher», lower as «of-lower»};
-ghost use Prim.Native.Nat.{min};
+ghost use Prim.Native.Nat.{_<_, min};
+ghost use lib.ListN.{length};
 ghost use mathlib.Core.Path.{_≡_};
 
 mod depths;
@@ -30,6 +31,12 @@ pub struct Step {
 struct Carried {
     depth: usize,
     last: u32,
+}
+
+// What the walk found at a place, and what is carried on from there.
+struct Walked {
+    found: bool,
+    carried: u32,
 }
 
 // The entry of a page with a rank: the rank above, the page below, turned round since the smaller page number is the higher.
@@ -81,24 +88,63 @@ fn carry_all(list: &mut [u32], old: u32, first: u32) -> Carried
     Carried { depth: 0, last }
 }
 
-// Carries `first` down the list, to the old entry's place or to the end: at each place the larger entry stays.
+// What the walk finds at a place: the old entry, where the carried one is put down, or another, and the smaller is carried on.
+fn at_place(list: &mut [u32], i: usize, old: u32, carried: u32) -> Walked
+    requires { ⌜ i < length (now list) ⌝ }
+    ensures { λ r. ⌜ AtPlace old carried i (now (list .entry)) (now (list .exit)) r ⌝ }
+{
+    let here = list[i];
+    if here == old {
+        list[i] = carried;
+        return Walked {
+            found: true,
+            carried,
+        };
+    }
+    list[i] = stays(carried, here);
+    Walked {
+        found: false,
+        carried: sinks(carried, here),
+    }
+}
+
+// Carries `first` down the list, to the old entry's place or to the end: at each place the larger entry stays. Two places a turn: one
+// at a time took a fifth longer.
 fn carry_lower(list: &mut [u32], old: u32, first: u32) -> Carried
     ensures { λ r. ⌜ Carrying larger old first (now (list .entry)) (now (list .exit)) r ⌝ }
 {
     let mut carried = first;
     let mut i = 0;
-    while i < list.len() {
-        let here = list[i];
-        if here == old {
-            list[i] = carried;
+    while 2 <= list.len() - i {
+        let one = at_place(list, i, old, carried);
+        if one.found {
             return Carried {
                 depth: i + 1,
                 last: 0,
             };
         }
-        list[i] = stays(carried, here);
-        carried = sinks(carried, here);
-        i += 1;
+        let two = at_place(list, i + 1, old, one.carried);
+        if two.found {
+            return Carried {
+                depth: i + 2,
+                last: 0,
+            };
+        }
+        carried = two.carried;
+        i += 2;
+    }
+    if i < list.len() {
+        let one = at_place(list, i, old, carried);
+        if one.found {
+            return Carried {
+                depth: i + 1,
+                last: 0,
+            };
+        }
+        return Carried {
+            depth: 0,
+            last: one.carried,
+        };
     }
     Carried {
         depth: 0,
