@@ -81,9 +81,6 @@ p12 =
       wanted = (zeros 32 ++ (25 ∷ [])) ∷ zeros 34 ∷ [];
     }
 
-abbrev pub rowTable : List Case
-rowTable = p9 ∷ p10 ∷ p11 ∷ p12 ∷ []
-
 -- each by itself, so that a case that fails is named
 pub p9-holds : gotten p9 ≡ wished p9
 unfolding answersOf victimAfterCalls

@@ -38,9 +38,11 @@ running g =
 -- one page, with nothing found ahead
 abbrev pub OnePage : ℕ → ℕ → ℕ → Session → List ℕ → List ℕ → List ℕ → ℕ → List ℕ → List ℕ → List ℕ → ℕ → Type 0
 OnePage policy k page s places depths counts used places′ depths′ counts′ d =
-    ReferredAll policy k (page ∷ []) (0 ∷ []) 0 (runMemory (s .length) places depths counts) (runMemory used places′ depths′ counts′) d
+    ReferredAll policy k (page ∷ []) (0 ∷ []) 0 (runMemory (s .length) places depths counts)
+    (runMemory used places′ depths′ counts′) d
 
-module _ {policy k : ℕ} {calls : List ℕ} {s : Session} {places depths counts : List ℕ} (g : Gives policy k calls s places depths counts)
+module _ {policy k : ℕ} {calls : List ℕ} {s : Session} {places depths counts : List ℕ}
+    (g : Gives policy k calls s places depths counts)
     (page : ℕ) (room : s .references < references) (fine : page < pages) {places′ depths′ counts′ : List ℕ} {used d : ℕ}
     (done : OnePage policy k page s places depths counts used places′ depths′ counts′ d) where
   abbrev past : List ℕ

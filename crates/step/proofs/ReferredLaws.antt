@@ -1,4 +1,5 @@
--- A reference by the policy's number: one law for LRU, which asks for no rank, and one for the policies that do; and references one
+-- A reference by the policy's number: one law for LRU, which asks for no rank, and one for the policies that do; and
+-- references one
 -- after the other.
 use Prim.Native.Nat.{ℕ, _+_, _-_}
 use native.Mathlib.Omega.{arith}
@@ -27,7 +28,8 @@ use Rattle.step.specs.Referred.{
   Ranked,
   Referred,
 }
-use Rattle.step.specs.ReferredAll.{RunMemory, runMemory, depthThen, listThen, memoryThen, memoryAfter, depthAfter, ReferredAll}
+use Rattle.step.specs.ReferredAll.{RunMemory, runMemory, ReferredAll}
+use Rattle.step.specs.ReferredAll.{depthThen, listThen, memoryThen, memoryAfter, depthAfter}
 
 -- what LFU keeps is its count, and one more
 kept-is : (policy page near next : ℕ) (counts : List ℕ)
@@ -67,7 +69,8 @@ module _ {policy page near next n k : ℕ} {places depths counts places′ depth
 module _ {policy page near ahead n k : ℕ} {places depths counts places′ depths′ counts′ : List ℕ} {s : Step}
     (done : Referred policy page near ahead n k places depths counts places′ depths′ counts′ s) where
   -- a reference makes of the memory what the definition says
-  memory-then : runMemory (s .length) places′ depths′ counts′ ≡ memoryThen policy k page near ahead (runMemory n places depths counts)
+  memory-then : runMemory (s .length) places′ depths′ counts′
+      ≡ memoryThen policy k page near ahead (runMemory n places depths counts)
   unfolding memoryThen listThen depthThen
   memory-then =
       let stepped = done .tallied .stepped in

@@ -158,7 +158,8 @@ module _ {old first carried i : ℕ} {before now after : List ℕ} {r : Walked} 
       rw (here .1) (walk-found w h c (here .0) d l)
 
 -- two places are one and one more
-pub two-on : (i : ℕ) {above : Priority} {old first carried : ℕ} {before now : List ℕ} → Walk above old first before carried (i + 1 + 1) now
+pub two-on : (i : ℕ) {above : Priority} {old first carried : ℕ} {before now : List ℕ}
+    → Walk above old first before carried (i + 1 + 1) now
     → Walk above old first before carried (i + 2) now
 two-on i w =
     let two : i + 1 + 1 ≡ i + 2 = omega arith in

@@ -62,13 +62,15 @@ pub record Tallied (above : Priority) (k old new n : ℕ) (places depths places�
   pub depths-are : depths′ ≡ depthsThen (r .depth) depths
 
 -- under the policies that rank
-pub record Ranked (policy page near next n k : ℕ) (places depths counts places′ depths′ counts′ : List ℕ) (r : Step) : Type 0 where
+pub record Ranked (policy page near next n k : ℕ) (places depths counts places′ depths′ counts′ : List ℕ)
+    (r : Step) : Type 0 where
   pub tallied : Tallied larger k (entry (λ p. rankNow policy page near counts) page)
       (entry (λ p. rankNext policy (rankNow policy page near counts) next) page) n places depths places′ depths′ r
   pub counts-are : counts′ ≡ countsKept policy page (rankNext policy (rankNow policy page near counts) next) counts
 
 -- under every policy
-pub record Referred (policy page near next n k : ℕ) (places depths counts places′ depths′ counts′ : List ℕ) (r : Step) : Type 0 where
+pub record Referred (policy page near next n k : ℕ) (places depths counts places′ depths′ counts′ : List ℕ)
+    (r : Step) : Type 0 where
   pub tallied : Tallied (shownOf policy) k (entry (λ p. rankBefore policy page near counts) page)
       (entry (λ p. rankThen policy page near next counts) page) n places depths places′ depths′ r
   pub counts-are : counts′ ≡ countsThen policy page counts

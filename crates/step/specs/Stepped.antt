@@ -24,7 +24,8 @@ pub record Stepped (above : Priority) (k old new n : ℕ) (before after : List �
   pub depth-is : r .depth ≡ depth old (take n before)
   pub length-is : r .length ≡ length (next above k old new n before)
 
--- one place of a walk: the old entry is there and the carried one takes its place, or the larger stays and the smaller is carried on
+-- one place of a walk: the old entry is there and the carried one takes its place, or the larger stays and the smaller is
+-- carried on
 pub record AtPlace (old carried i : ℕ) (before after : List ℕ) (r : Walked) : Type 0 where
   pub long : length after ≡ length before
   pub hit : r .found ≡ true → (getD before i 0 ≡ old) × (after ≡ set before i carried)

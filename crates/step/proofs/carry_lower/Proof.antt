@@ -94,7 +94,8 @@ returns-3 : tie.Need-returns-3 Inv-loop μ-loop
 returns-3 c =
     let walked = c .before .before .before in
     let looped = walked .before .before .before .before in
-    walk-stop (looped .loop .inv) (omega (arith, looped .loop .inv .long)) (walked .at-place3 .ensures) (c .if4 .taken) _ refl refl
+    walk-stop (looped .loop .inv) (omega (arith, looped .loop .inv .long)) (walked .at-place3 .ensures) (c .if4 .taken) _
+    refl refl
 
 same-length-4 : tie.Need-same-length-4 Inv-loop μ-loop
 same-length-4 c =

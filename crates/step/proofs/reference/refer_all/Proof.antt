@@ -45,7 +45,8 @@ loop-again : tie.Need-loop-again Inv-loop μ-loop
 loop-again c =
     let found = c .before .before .before .before .before in
     let looped = found .before .before .before in
-    (one-done (looped .loop .inv .0) refl (found .before .left-at .ensures) (found .next-at .ensures) (c .refer .ensures), omega arith)
+    let near = found .before .left-at .ensures in
+    (one-done (looped .loop .inv .0) refl near (found .next-at .ensures) (c .refer .ensures), omega arith)
 
 returns : tie.Need-returns Inv-loop μ-loop
 returns c = all-done (c .before .loop .inv .0) (omega arith)
