@@ -25,10 +25,10 @@ use Rattle.kept.specs.PastOnly.{list-past-only, tally-past-only, policy-
 use Rattle.kept.specs.Memory.{lengthAfter, padded, placesAfter, depthsAfter, countsAfter, Running}
 
 -- as many places are in use as there are entries, and no more than k
-pub kept-length : (ranking : Ranking) (policy k : ℕ) (past to : List ℕ)
+pub entries-length : (ranking : Ranking) (policy k : ℕ) (past to : List ℕ)
     → length (kept ranking (policyOf policy) k past to) ≡ lengthAfter policy k past to
 unfolding kept lengthAfter
-kept-length ranking policy k past to = length-map (listAfter (policyOf policy) k past to) (entry (ranking past to))
+entries-length ranking policy k past to = length-map (listAfter (policyOf policy) k past to) (entry (ranking past to))
 
 pub length-most : (policy k : ℕ) (past to : List ℕ) → lengthAfter policy k past to ≤ k
 unfolding lengthAfter

@@ -4,7 +4,7 @@ use mathlib.Core.Path.{_≡_, refl}
 use mathlib.Core.List.{List, [], _∷_, map}
 use Rattle.rules.specs.Case.{Case, gotten, wished}
 use Rattle.theory.specs.MarkedCounts.{counted, p1, p2, p3, p4, p5, p6}
-use Rattle.count.specs.MarkedAnswers.{answered, p7, p8}
+use Rattle.count.specs.MarkedAnswers.{refusedAs, p7, p8}
 use Rattle.row_theory.specs.Runs.{answersOf, victimAfterCalls}
 use Rattle.marked.specs.MarkedRows.{puts, p9, p10, p11, p12}
 
@@ -12,5 +12,5 @@ abbrev pub table : List Case
 table = p1 ∷ p2 ∷ p3 ∷ p4 ∷ p5 ∷ p6 ∷ p7 ∷ p8 ∷ p9 ∷ p10 ∷ p11 ∷ p12 ∷ []
 
 pub marked : map gotten table ≡ map wished table
-unfolding counted answered answersOf victimAfterCalls puts
+unfolding counted refusedAs answersOf victimAfterCalls puts
 marked = refl

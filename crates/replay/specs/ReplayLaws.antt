@@ -38,9 +38,9 @@ use Rattle.session.specs.Answers.{Starting, Referring, depthAs}
 use Rattle.session.specs.Reads.{HitsRead}
 use Rattle.session.specs.ReferLaws.{start-bounds, accepted-all, accepted-few}
 use Rattle.session.specs.Driving.{begun, not-begun, begun-gives}
-use Rattle.replay.specs.declared.Run.{Run}
+use Rattle.replay.specs.declared.Progress.{Progress}
 use Rattle.replay.specs.Replayed.{Replayed, replayAnswer, replayTable}
-use Rattle.replay.specs.Steps.{refusedIn, numberIn, Fresh, Referable, Followed, Readable, HitsFilled}
+use Rattle.replay.specs.Steps.{refusedIn, numberIn, OnlyStarted, Referable, Followed, Readable, HitsFilled}
 
 -- i references were accepted, and the first bad page is still to come
 pub record Along (s : Session) (trace : List ℕ) (i : ℕ) (now : Session) (places depths counts : List ℕ) : Type 0 where
@@ -145,7 +145,7 @@ limits-none policy k n e few =
     let small : policy < policies = omega (arith, b .session) in
     rw (lt-leb policies policy small, le-leb 1 k (b .low), le-leb k capacities (b .high), le-ltb references n few)
 
-module _ {s : Session} {places depths counts : List ℕ} (only-started : Fresh s places depths counts) (trace table : List ℕ) where
+module _ {s : Session} {places depths counts : List ℕ} (only-started : OnlyStarted s places depths counts) (trace table : List ℕ) where
   pub drive-many : references < length trace → Counted trace (s .policy) (s .k) table table (refusal tooManyReferences 0)
   drive-many many =
       count-limits trace (s .policy) (s .k) tooManyReferences table
@@ -158,7 +158,7 @@ module _ {s : Session} {places depths counts : List ℕ} (only-started : Fresh s
     pub drive-short : length table < s .k → Counted trace (s .policy) (s .k) table table (refusal shortTable 0)
     drive-short short = count-short trace (s .policy) (s .k) 0 table passed refl short
 
-    module _ (room : s .k ≤ length table) {places′ depths′ counts′ : List ℕ} {r : Run}
+    module _ (room : s .k ≤ length table) {places′ depths′ counts′ : List ℕ} {r : Progress}
         (followed : Followed s trace places′ depths′ counts′ r) where
       pub drive-bad : r .accepted < length trace → Counted trace (s .policy) (s .k) table table (refusal badPage (r .accepted))
       drive-bad bad = count-bad trace (s .policy) (s .k) 0 table passed refl room (r .accepted) (followed .accepted-is) bad
@@ -199,7 +199,7 @@ refused-start policy k n rest e =
 -- the promise, by what the start answered
 module _ {policy k : ℕ} {places depths counts places′ depths′ counts′ : List ℕ} {answer : Started}
     (p : Starting policy k places depths counts places′ depths′ counts′ answer) where
-  pub replay-fresh : {s : Session} → answer ≡ started.Begun s → Fresh s places′ depths′ counts′
+  pub replay-fresh : {s : Session} → answer ≡ started.Begun s → OnlyStarted s places′ depths′ counts′
   replay-fresh {s} e =
       let at-policy : s .policy ≡ policy = ap (λ (x : Session). x .policy) (begun p e .1) in
       let at-k : s .k ≡ k = ap (λ (x : Session). x .k) (begun p e .1) in

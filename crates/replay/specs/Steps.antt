@@ -14,7 +14,7 @@ use Rattle.session.specs.declared.Asked.{Asked}
 use Rattle.session.specs.declared.Asked.the-variants as asked
 use Rattle.session.specs.History.{hitsNow}
 use Rattle.session.specs.Memory.{Value, Depths, Counting, Gives}
-use Rattle.replay.specs.declared.Run.{Run}
+use Rattle.replay.specs.declared.Progress.{Progress}
 
 abbrev pub refusedIn : Depth → Bool
 refusedIn (depth.Accepted d) = false
@@ -25,16 +25,16 @@ numberIn (asked.Number n) = n
 numberIn (asked.Refused r) = 0
 
 -- a session that was only started
-abbrev pub Fresh : Session → List ℕ → List ℕ → List ℕ → Type 0
-Fresh s places depths counts = Gives (s .policy) (s .k) [] s places depths counts
+abbrev pub OnlyStarted : Session → List ℕ → List ℕ → List ℕ → Type 0
+OnlyStarted s places depths counts = Gives (s .policy) (s .k) [] s places depths counts
 
 pub record Referable (s : Session) (trace places depths counts : List ℕ) : Type 0 where
-  pub fresh : Fresh s places depths counts
+  pub fresh : OnlyStarted s places depths counts
   pub few : length trace ≤ references
 
 -- so many references were accepted: all before the first bad page. Where that is all of the trace, the trace is the session's
 -- history
-pub record Followed (s : Session) (trace places depths counts : List ℕ) (r : Run) : Type 0 where
+pub record Followed (s : Session) (trace places depths counts : List ℕ) (r : Progress) : Type 0 where
   pub accepted-is : r .accepted ≡ firstBad 0 trace
   pub gives : r .accepted ≡ length trace → Gives (s .policy) (s .k) (reverse trace) (r .session) places depths counts
 

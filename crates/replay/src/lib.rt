@@ -4,7 +4,7 @@
 ghost use mathlib.Core.Path.{_≡_};
 ghost use Rattle.count.specs.Count.{Counted};
 ghost use Rattle.replay.specs.Replayed.{Replayed};
-ghost use Rattle.replay.specs.Steps.{Fresh, Referable, Followed, Readable, HitsFilled, refusedIn, numberIn};
+ghost use Rattle.replay.specs.Steps.{OnlyStarted, Referable, Followed, Readable, HitsFilled, refusedIn, numberIn};
 use rules::Answer;
 use rules::BAD_PAGE;
 use rules::CAPACITIES;
@@ -20,7 +20,7 @@ use session::Started;
 use step::DEPTHS;
 
 // The session after the references that it accepted, and how many those were.
-pub struct Run {
+pub struct Progress {
     pub session: Session,
     pub accepted: usize,
 }
@@ -48,7 +48,7 @@ fn drive(
     depths: &mut [u32; DEPTHS],
     counts: &mut [u16; PAGES as usize],
 ) -> Answer
-    requires { ⌜ Fresh s (now places) (now depths) (now counts) ⌝ }
+    requires { ⌜ OnlyStarted s (now places) (now depths) (now counts) ⌝ }
     ensures { λ r. ⌜ Counted (now (trace .entry)) (s .policy) (s .k) (now (hits .entry)) (now (hits .exit)) r ⌝ }
 {
     if REFERENCES < trace.len() {
@@ -83,7 +83,7 @@ fn refer_all(
     places: &mut [u32; CAPACITIES],
     depths: &mut [u32; DEPTHS],
     counts: &mut [u16; PAGES as usize],
-) -> Run
+) -> Progress
     requires { ⌜ Referable s (now trace) (now places) (now depths) (now counts) ⌝ }
     ensures { λ r. ⌜ Followed s (now (trace .entry)) (now (places .exit)) (now (depths .exit)) (now (counts .exit)) r ⌝ }
 {
@@ -95,14 +95,14 @@ fn refer_all(
         session = referenced.session;
         let depth = referenced.depth;
         if was_refused(depth) {
-            return Run {
+            return Progress {
                 session,
                 accepted: i,
             };
         }
         i += 1;
     }
-    Run {
+    Progress {
         session,
         accepted: i,
     }

@@ -29,12 +29,12 @@ use Rattle.step.specs.Referred.{
 }
 
 -- OPT was told how near this reference is, and how near the next one to the same page is
-pub record Told (near next page : ℕ) (to : List ℕ) : Type 0 where
+pub record ToldAhead (near next page : ℕ) (to : List ℕ) : Type 0 where
   pub near-is : near ≡ suc (length to)
   pub next-is : next ≡ nearness page to
 
 abbrev pub LooksAhead : ℕ → ℕ → ℕ → ℕ → List ℕ → Type 0
-LooksAhead policy near next page to = (policy ≡ lru → ⊥) → (policy ≡ lfu → ⊥) → Told near next page to
+LooksAhead policy near next page to = (policy ≡ lru → ⊥) → (policy ≡ lfu → ⊥) → ToldAhead near next page to
 
 times-again : (x : ℕ) (past : List ℕ) → times x (x ∷ past) ≡ times x past + 1
 unfolding times
@@ -63,7 +63,7 @@ module _ (policy page : ℕ) (past to : List ℕ) (fine : page < pages) (good : 
       none d = unfold countsAfter in rw d
 
   module _ (near next : ℕ) (looks : LooksAhead policy near next page to) where
-    told : eqb policy lru ≡ false → eqb policy lfu ≡ false → Told near next page to
+    told : eqb policy lru ≡ false → eqb policy lfu ≡ false → ToldAhead near next page to
     told e d = looks (eqb-false policy lru e) (eqb-false policy lfu d)
 
     pub rank-before : rankBefore policy page near (countsAfter policy past) ≡ rankingOf policy past (page ∷ to) page

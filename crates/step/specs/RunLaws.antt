@@ -21,7 +21,7 @@ use Rattle.kept.specs.Kept.{kept, kept-step, depth-entry}
 use Rattle.kept.specs.KeptPolicies.{keeps}
 use Rattle.kept.specs.Tally.{tally, bump, tally-most}
 use Rattle.kept.specs.Memory.{lengthAfter, padded, placesAfter, depthsAfter, Running}
-use Rattle.kept.specs.MemoryLaws.{kept-length, length-most, padded-length, take-padded, padded-over, no-counts}
+use Rattle.kept.specs.MemoryLaws.{entries-length, length-most, padded-length, take-padded, padded-over, no-counts}
 use Rattle.step.specs.declared.Step.{Step}
 use Rattle.step.specs.Stepped.{Stepped, next}
 use Rattle.step.specs.Referred.{depthsThen, largestCount, Referred}
@@ -62,13 +62,13 @@ module _ (policy k : ℕ) (low : 1 ≤ k) (high : k ≤ capacities) (page : ℕ)
   used = lengthAfter policy k past (page ∷ to)
 
   in-use : take used (padded now-entries) ≡ now-entries
-  in-use = take-padded now-entries used (kept-length (rankingOf policy) policy k past (page ∷ to))
+  in-use = take-padded now-entries used (entries-length (rankingOf policy) policy k past (page ∷ to))
 
   next-is : next (shownOf policy) k old new used (padded now-entries) ≡ then-entries
   unfolding next
   next-is =
       let now-long : length now-entries ≤ k =
-      omega (arith, kept-length (rankingOf policy) policy k past (page ∷ to), length-most policy k past (page ∷ to)) in
+      omega (arith, entries-length (rankingOf policy) policy k past (page ∷ to), length-most policy k past (page ∷ to)) in
       let room : length (padded now-entries) ≡ capacities = padded-length now-entries (omega arith) in
       let cut : max (length now-entries) (min k (length (padded now-entries))) ≡ k = omega arith in
       rw (in-use, cut)
@@ -83,7 +83,7 @@ module _ (policy k : ℕ) (low : 1 ≤ k) (high : k ≤ capacities) (page : ℕ)
         (list-below 65536 (policyOf policy) k past (page ∷ to) good))
 
     pub length-after : s .length ≡ lengthAfter policy k (page ∷ past) to
-    length-after = stepped .length-is ∙ ap length next-is ∙ kept-length (rankingOf policy) policy k (page ∷ past) to
+    length-after = stepped .length-is ∙ ap length next-is ∙ entries-length (rankingOf policy) policy k (page ∷ past) to
 
     -- the list does not shrink, so what stands behind it is 0 as before
     pub places-after : places′ ≡ padded then-entries
@@ -91,7 +91,7 @@ module _ (policy k : ℕ) (low : 1 ≤ k) (high : k ≤ capacities) (page : ℕ)
         let grown : length now-entries ≤ length then-entries =
         omega (arith, rw (in-use, next-is) at (next-grows (shownOf policy) k old new used (padded now-entries))) in
         let fitting : length then-entries ≤ capacities =
-        omega (arith, kept-length (rankingOf policy) policy k (page ∷ past) to, length-most policy k (page ∷ past) to) in
+        omega (arith, entries-length (rankingOf policy) policy k (page ∷ past) to, length-most policy k (page ∷ past) to) in
         stepped .places ∙ rw next-is (padded-over now-entries then-entries grown fitting)
 
 -- a depth that a run can have is counted, and once more fits
@@ -183,7 +183,7 @@ pub run-shown : (policy k : ℕ) (past to : List ℕ) {n : ℕ} {places : List �
 unfolding placesAfter kept
 run-shown policy k past to {n} {places} high good length-is places-are e =
     let entries : List ℕ = kept (rankingOf policy) (policyOf policy) k past to in
-    let long : length entries ≡ n = kept-length (rankingOf policy) policy k past to ∙ sym length-is in
+    let long : length entries ≡ n = entries-length (rankingOf policy) policy k past to ∙ sym length-is in
     let inside : n ≤ capacities = omega (arith, length-most policy k past to) in
     let room : length places ≡ capacities = ap length places-are ∙ padded-length entries (omega arith) in
     let pages-are : map pageOf (take n places) ≡ listAfter (policyOf policy) k past to =
