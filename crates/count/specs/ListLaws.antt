@@ -14,7 +14,7 @@ use Rattle.rules.specs.declared.Page.{Page}
 use Rattle.theory.specs.OnePass.{listOf}
 use Rattle.kept.specs.Memory.{lengthAfter}
 use Rattle.step.specs.Shown.{shownPlaces}
-use Rattle.step.specs.RunLaws.{run-shown}
+use Rattle.run.specs.RunLaws.{run-shown}
 use Rattle.count.specs.declared.runs.Run.{Run}
 use Rattle.count.specs.Count.{listAnswer, listShown, withinLimits}
 use Rattle.count.specs.Checks.{limitsNumber, limits-refused, limits-passed, limits-within}

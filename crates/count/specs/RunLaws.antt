@@ -7,8 +7,8 @@ use lib.ListN.{length, take, drop, getD, replicate, length-take, length-reverse}
 use lib.Seq.{take-suc, drop-cons, getD-take, length-take-le}
 use Rattle.rules.specs.Limits.{capacities, references, pages}
 use Rattle.kept.specs.Below.{Below, below-take}
-use Rattle.step.specs.ReferredAll.{RunMemory, runMemory, memoryAfter, ReferredAll}
-use Rattle.step.specs.RunLaws.{Runs, run-start, then-runs}
+use Rattle.run.specs.ReferredAll.{RunMemory, runMemory, memoryAfter, ReferredAll}
+use Rattle.run.specs.RunLaws.{Runs, run-start, then-runs}
 use Rattle.count.specs.Runs.{before, Ran, Followable}
 
 reverse-snoc : (l r : List ℕ) (a : ℕ) → reverseAux (l ++ (a ∷ [])) r ≡ a ∷ reverseAux l r

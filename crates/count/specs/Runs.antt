@@ -6,7 +6,7 @@ use lib.ListN.{length, take, drop, getD}
 use Rattle.rules.specs.Limits.{capacities, references, pages}
 use Rattle.kept.specs.Below.{Below}
 use Rattle.kept.specs.Memory.{Running}
-use Rattle.step.specs.RankLaws.{LooksAhead}
+use Rattle.run.specs.RankLaws.{LooksAhead}
 use Rattle.count.specs.declared.runs.Run.{Run}
 
 -- the references before i, latest first

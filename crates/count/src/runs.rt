@@ -39,7 +39,7 @@ fn follow(trace: &[u16], policy: u8, k: usize, t: usize, nexts: &[u16]) -> Run
     let mut counts = [0u16; PAGES as usize];
     let mut length = 0;
     let left = trace.len() as u16;
-    step::refer_all(
+    run::refer_all(
         policy,
         k,
         &trace[..t],

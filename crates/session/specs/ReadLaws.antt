@@ -13,7 +13,7 @@ use Rattle.theory.specs.Theorem.{hits-by-depth, hits-and-misses}
 use Rattle.kept.specs.Tally.{upTo, tally-hits}
 use Rattle.kept.specs.Memory.{lengthAfter, depthsAfter}
 use Rattle.step.specs.Shown.{shownPlaces}
-use Rattle.step.specs.RunLaws.{run-shown}
+use Rattle.run.specs.RunLaws.{run-shown}
 use Rattle.session.specs.declared.Session.{Session}
 use Rattle.session.specs.declared.Asked.the-variants as asked
 use Rattle.session.specs.History.{acceptedOf, capacityAnswer, hitsNow, missesNow}

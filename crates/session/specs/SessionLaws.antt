@@ -10,9 +10,9 @@ use Rattle.theory.specs.OnePass.{depth}
 use Rattle.kept.specs.PastOnly.{policy-past-only, list-past-only}
 use Rattle.kept.specs.Memory.{lengthAfter, Running}
 use Rattle.kept.specs.MemoryLaws.{running-past-only}
-use Rattle.step.specs.ReferredAll.{RunMemory, runMemory, memoryAfter, depthAfter, ReferredAll}
-use Rattle.step.specs.RankLaws.{LooksAhead}
-use Rattle.step.specs.RunLaws.{Runs, then-depth, then-runs}
+use Rattle.run.specs.ReferredAll.{RunMemory, runMemory, memoryAfter, depthAfter, ReferredAll}
+use Rattle.run.specs.RankLaws.{LooksAhead}
+use Rattle.run.specs.RunLaws.{Runs, then-depth, then-runs}
 use Rattle.session.specs.declared.Session.{Session}
 use Rattle.session.specs.History.{acceptedOf, listNow}
 use Rattle.session.specs.Memory.{Gives}

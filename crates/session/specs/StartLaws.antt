@@ -11,7 +11,7 @@ use Rattle.rules.specs.Cases.{by-cases}
 use Rattle.rules.specs.declared.Answer.the-variants.{Accepted}
 use Rattle.theory.specs.OnePass.{listAfter}
 use Rattle.kept.specs.Memory.{lengthAfter}
-use Rattle.step.specs.RunLaws.{run-start}
+use Rattle.run.specs.RunLaws.{run-start}
 use Rattle.session.specs.declared.Started.{Started}
 use Rattle.session.specs.declared.Started.the-variants as started
 use Rattle.session.specs.History.{startAnswer, acceptedOf}

@@ -138,7 +138,7 @@ pub fn refer(
     // LRU and LFU look nothing up
     let pages = [p];
     let nexts = [0u16; 1];
-    let depth = step::refer_all(
+    let depth = run::refer_all(
         s.policy,
         s.k,
         &pages,

@@ -1,4 +1,3 @@
-pub mod ReferredLaws
 pub mod Walk
 pub mod FirstPlace
 pub mod Settling

@@ -1,34 +1,12 @@
 // How often each depth came: a table with a place for each depth from 0, which stands for "not in the list".
 ghost use Rattle.kept.specs.Tally.{upTo};
-ghost use Rattle.step.specs.Referred.{depthsThen, largestCount};
 ghost use Rattle.rules.specs.Limits.{capacities};
-ghost use Prim.Native.Nat.{_+_, _<_, min};
+ghost use Prim.Native.Nat.{_<_, min};
 ghost use mathlib.Core.Path.{_≡_};
 use crate::in_use;
 use rules::CAPACITIES;
 
 pub const DEPTHS: usize = CAPACITIES + 1;
-
-const LARGEST_COUNT: u32 = 4294967295;
-
-// The depth came once more.
-pub(crate) fn count_depth(depths: &mut [u32; DEPTHS], d: usize)
-    ensures { λ _. ⌜ now (depths .exit) ≡ depthsThen d (now (depths .entry)) ⌝ }
-{
-    if d < DEPTHS {
-        depths[d] = more(depths[d]);
-    }
-}
-
-// One more, as far as the number goes.
-fn more(count: u32) -> u32
-    ensures { λ r. ⌜ r ≡ min (count + 1) largestCount ⌝ }
-{
-    if count < LARGEST_COUNT {
-        return count + 1;
-    }
-    LARGEST_COUNT
-}
 
 // How many references had a depth from 1 to `c`.
 pub fn sum(depths: &[u32; DEPTHS], c: usize) -> usize

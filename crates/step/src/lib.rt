@@ -13,12 +13,10 @@ ghost use lib.ListN.{length};
 ghost use mathlib.Core.Path.{_≡_};
 
 mod depths;
-mod reference;
 mod shown;
 
 pub use depths::DEPTHS;
 pub use depths::sum;
-pub use reference::refer_all;
 pub use shown::show;
 
 // What a reference answers: the depth at which the old entry stood, or 0; and the places in use after it.
@@ -40,7 +38,7 @@ struct Walked {
 }
 
 // The entry of a page with a rank: the rank above, the page below, turned round since the smaller page number is the higher.
-pub(crate) fn entry(rank: u16, page: u16) -> u32
+pub fn entry(rank: u16, page: u16) -> u32
     ensures { λ r. ⌜ r ≡ «entry-of» (λ p. rank) page ⌝ }
 {
     (rank as u32) * 65536 + (65535 - (page as u32))
@@ -207,7 +205,7 @@ fn settle(list: &mut [u32], used: usize, k: usize, c: Carried) -> Step
 }
 
 // A reference under LRU to the page of `entry`, in a list of `n` places that may grow to `k`.
-pub(crate) fn shift(list: &mut [u32], n: usize, k: usize, entry: u32) -> Step
+pub fn shift(list: &mut [u32], n: usize, k: usize, entry: u32) -> Step
     ensures { λ r. ⌜ Stepped always k entry entry n (now (list .entry)) (now (list .exit)) r ⌝ }
 {
     let used = in_use(n, list.len());
@@ -216,7 +214,7 @@ pub(crate) fn shift(list: &mut [u32], n: usize, k: usize, entry: u32) -> Step
 }
 
 // A reference under LFU or OPT to the page whose entry is `old` and is `new` from now on.
-pub(crate) fn place(list: &mut [u32], n: usize, k: usize, old: u32, new: u32) -> Step
+pub fn place(list: &mut [u32], n: usize, k: usize, old: u32, new: u32) -> Step
     ensures { λ r. ⌜ Stepped larger k old new n (now (list .entry)) (now (list .exit)) r ⌝ }
 {
     let used = in_use(n, list.len());
