@@ -145,7 +145,8 @@ limits-none policy k n e few =
     let small : policy < policies = omega (arith, b .session) in
     rw (lt-leb policies policy small, le-leb 1 k (b .low), le-leb k capacities (b .high), le-ltb references n few)
 
-module _ {s : Session} {places depths counts : List ℕ} (only-started : OnlyStarted s places depths counts) (trace table : List ℕ) where
+module _ {s : Session} {places depths counts : List ℕ} (only-started : OnlyStarted s places depths counts)
+    (trace table : List ℕ) where
   pub drive-many : references < length trace → Counted trace (s .policy) (s .k) table table (refusal tooManyReferences 0)
   drive-many many =
       count-limits trace (s .policy) (s .k) tooManyReferences table

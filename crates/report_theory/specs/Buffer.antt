@@ -76,10 +76,6 @@ then {at} {s = s} {t = t} {before = before} fits a b = record {
   buffer = b .buffer ∙ rw (a .buffer, a .place) (written-twice at s t before fits);
 }
 
-pub kept-length : {at next : ℕ} {s before after : List ℕ} → at + length s ≤ length before → Wrote at s before next after
-    → length after ≡ length before
-kept-length {at} {s = s} {before = before} fits w = rw (w .buffer) (length-written at s before fits)
-
 -- what a function that writes text from a buffer's front promises: how many bytes, the whole buffer after, and that the bytes
 -- are within it
 pub record Printed (text before : List ℕ) (count : ℕ) (after : List ℕ) : Type 0 where
