@@ -13,7 +13,7 @@ use Rattle.rules.specs.declared.Answer.the-variants.{Accepted}
 use Rattle.rules.specs.declared.Page.{Page}
 use Rattle.theory.specs.OnePass.{listOf}
 use Rattle.kept.specs.Memory.{lengthAfter}
-use Rattle.step.specs.Shown.{shownPlaces}
+use Rattle.kept.specs.Shown.{shownPlaces}
 use Rattle.run.specs.RunLaws.{run-shown}
 use Rattle.count.specs.declared.runs.Run.{Run}
 use Rattle.count.specs.Count.{listAnswer, listShown, withinLimits}

@@ -4,7 +4,7 @@ use mathlib.Core.Path.{_≡_}
 use mathlib.Core.List.{List, []}
 use lib.ListN.{length}
 use Rattle.rules.specs.Refusals.{refusal}
-use Rattle.step.specs.Shown.{placesOf}
+use Rattle.kept.specs.Shown.{placesOf}
 use Rattle.count.specs.Count.{listAnswer, listShown}
 use Rattle.count.specs.declared.Listed.{Listed}
 

@@ -17,7 +17,7 @@ use Rattle.theory.specs.OnePass.{listOf, listAfter}
 use Rattle.theory.specs.Order.{policy-order}
 use Rattle.theory.specs.Theorem.{list-is-cache, at-most}
 use Rattle.count.specs.Count.{Counted, countAnswer, countTable, listAnswer, listShown}
-use Rattle.step.specs.Shown.{pagesShown, shown-back, zero-past}
+use Rattle.kept.specs.Shown.{pagesShown, shown-back, zero-past}
 use Rattle.count.specs.Listing.{Showing}
 use Rattle.count.specs.declared.Listed.{Listed}
 

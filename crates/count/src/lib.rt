@@ -62,7 +62,7 @@ pub fn list(trace: &[u16], policy: u8, k: usize, t: usize) -> Listed
     let run = runs::run_policy(trace, policy, k, t);
     let entries = run.list;
     let length = run.length;
-    let places = step::show(&entries, length);
+    let places = kept::show(&entries, length);
     Listed {
         answer: Answer::Accepted,
         length,

@@ -4,11 +4,11 @@ ghost use Rattle.kept.specs.Nexts.{nexts as «of-nexts»};
 ghost use lib.ListN.{length, drop};
 ghost use mathlib.Core.List.{_++_};
 ghost use mathlib.Core.Path.{_≡_};
+use kept::DEPTHS;
 use rules::CAPACITIES;
 use rules::OPT;
 use rules::PAGES;
 use rules::REFERENCES;
-use step::DEPTHS;
 
 pub struct Run {
     pub list: [u32; CAPACITIES],

@@ -1,6 +1,6 @@
 // The hit table: each entry is the sum of the depths up to its capacity.
 ghost use Rattle.count.specs.Table.{Fillable, Filled};
-use step::DEPTHS;
+use kept::DEPTHS;
 
 // Writes the hits at capacities 1 to `k` into the first `k` entries.
 pub(crate) fn fill(depths: &[u32; DEPTHS], k: usize, hits: &mut [u32])
@@ -9,7 +9,7 @@ pub(crate) fn fill(depths: &[u32; DEPTHS], k: usize, hits: &mut [u32])
 {
     let mut c = 0;
     while c < k {
-        hits[c] = step::sum(depths, c + 1) as u32;
+        hits[c] = kept::sum(depths, c + 1) as u32;
         c += 1;
     }
 }

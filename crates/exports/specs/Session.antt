@@ -5,7 +5,7 @@ use mathlib.Core.List.{List, _∷_, map}
 use lib.ListN.{length, replicate}
 use Rattle.rules.specs.Limits.{capacities, pages}
 use Rattle.rules.specs.Refusals.{whenAccepted}
-use Rattle.step.specs.Shown.{placesOf}
+use Rattle.kept.specs.Shown.{placesOf}
 use Rattle.session.specs.declared.Session.{Session}
 use Rattle.session.specs.declared.Depth.{Depth}
 use Rattle.session.specs.declared.Depth.the-variants as depth

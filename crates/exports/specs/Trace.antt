@@ -5,7 +5,7 @@ use mathlib.Core.List.{List, map}
 use lib.ListN.{length}
 use Rattle.rules.specs.Refusals.{whenAccepted}
 use Rattle.rules.specs.declared.Page.{Page}
-use Rattle.step.specs.Shown.{placesOf}
+use Rattle.kept.specs.Shown.{placesOf}
 use Rattle.count.specs.Count.{countAnswer, countTable, listAnswer, listShown}
 use Rattle.exports.specs.declared.Told.{Told}
 use Rattle.exports.specs.Told.{toldOf}

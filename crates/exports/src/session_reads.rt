@@ -6,10 +6,10 @@ ghost use Rattle.exports.specs.Lent.{sessionOf};
 ghost use Rattle.exports.specs.Session.{toldAsked, ListShown, HitsTold, MissesTold};
 use crate::ToldNumber;
 use crate::whole_trace::page_numbers;
+use kept::DEPTHS;
 use rules::CAPACITIES;
 use session::Asked;
 use session::Session;
-use step::DEPTHS;
 
 fn asked_in_numbers(asked: Asked) -> ToldNumber
     ensures { λ r. ⌜ r ≡ toldAsked asked ⌝ }

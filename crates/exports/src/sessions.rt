@@ -6,6 +6,7 @@ ghost use Rattle.exports.specs.Session.{Lives, toldDepth, StartTold, Ref
 use crate::Told;
 use crate::ToldNumber;
 use crate::in_numbers;
+use kept::DEPTHS;
 use rules::Answer;
 use rules::CAPACITIES;
 use rules::PAGES;
@@ -13,7 +14,6 @@ use rules::Page;
 use session::Depth;
 use session::Session;
 use session::Started;
-use step::DEPTHS;
 
 fn depth_in_numbers(depth: Depth) -> ToldNumber
     ensures { λ r. ⌜ r ≡ toldDepth depth ⌝ }

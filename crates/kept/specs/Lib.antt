@@ -8,6 +8,7 @@ pub mod Tally
 pub mod Frequencies
 pub mod Nexts
 pub mod Memory
+pub mod Shown
 -- Laws:
 pub mod Below
 pub mod EntryLaws

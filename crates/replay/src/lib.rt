@@ -5,6 +5,7 @@ ghost use mathlib.Core.Path.{_≡_};
 ghost use Rattle.count.specs.Count.{Counted};
 ghost use Rattle.replay.specs.Replayed.{Replayed};
 ghost use Rattle.replay.specs.Steps.{OnlyStarted, Referable, Followed, Readable, HitsFilled, refusedIn, numberIn};
+use kept::DEPTHS;
 use rules::Answer;
 use rules::BAD_PAGE;
 use rules::CAPACITIES;
@@ -17,7 +18,6 @@ use session::Asked;
 use session::Depth;
 use session::Session;
 use session::Started;
-use step::DEPTHS;
 
 // The session after the references that it accepted, and how many those were.
 pub struct Progress {

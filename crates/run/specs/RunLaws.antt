@@ -28,7 +28,7 @@ use Rattle.run.specs.Referred.{depthsThen, largestCount, Referred}
 use Rattle.run.specs.ReferredAll.{RunMemory, depthThen, listThen, memoryThen}
 use Rattle.run.specs.RankLaws.{LooksAhead, rank-before, rank-then, counts-then}
 use Rattle.step.specs.EntryLengths.{next-grows}
-use Rattle.step.specs.Shown.{shownPlaces, placesOf, shown-all}
+use Rattle.kept.specs.Shown.{shownPlaces, placesOf, shown-all}
 
 -- the pages of a run, as entries hold them
 abbrev Fits : List ℕ → Type 0

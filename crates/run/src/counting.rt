@@ -2,7 +2,7 @@
 ghost use Rattle.run.specs.Referred.{depthsThen, largestCount};
 ghost use Prim.Native.Nat.{_+_, min};
 ghost use mathlib.Core.Path.{_≡_};
-use step::DEPTHS;
+use kept::DEPTHS;
 
 const LARGEST_COUNT: u32 = 4294967295;
 

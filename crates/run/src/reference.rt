@@ -10,13 +10,13 @@ ghost use Rattle.run.specs.Referred.{countIn, countStored, countsKept, o
 ghost use Rattle.run.specs.Referred.{Tallied, Ranked, Referred};
 ghost use Rattle.run.specs.ReferredAll.{runMemory, ReferredAll};
 use crate::counting::count_depth;
+use kept::DEPTHS;
+use kept::entry;
 use rules::CAPACITIES;
 use rules::LFU;
 use rules::LRU;
 use rules::PAGES;
-use step::DEPTHS;
 use step::Step;
-use step::entry;
 use step::place;
 use step::shift;
 

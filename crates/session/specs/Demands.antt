@@ -15,7 +15,7 @@ use Rattle.theory.specs.Plain.{cacheAfter, hitsAt}
 use Rattle.theory.specs.OnePass.{within}
 use Rattle.theory.specs.Order.{policy-order}
 use Rattle.theory.specs.Theorem.{list-is-cache, hit-by-depth, hits-and-misses, at-most}
-use Rattle.step.specs.Shown.{placesOf, pagesShown, shown-back, zero-past}
+use Rattle.kept.specs.Shown.{placesOf, pagesShown, shown-back, zero-past}
 use Rattle.session.specs.declared.Session.{Session}
 use Rattle.session.specs.declared.Depth.the-variants as answers
 use Rattle.session.specs.declared.Referenced.{Referenced}

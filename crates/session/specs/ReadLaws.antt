@@ -12,7 +12,7 @@ use Rattle.theory.specs.Order.{policy-order}
 use Rattle.theory.specs.Theorem.{hits-by-depth, hits-and-misses}
 use Rattle.kept.specs.Tally.{upTo, tally-hits}
 use Rattle.kept.specs.Memory.{lengthAfter, depthsAfter}
-use Rattle.step.specs.Shown.{shownPlaces}
+use Rattle.kept.specs.Shown.{shownPlaces}
 use Rattle.run.specs.RunLaws.{run-shown}
 use Rattle.session.specs.declared.Session.{Session}
 use Rattle.session.specs.declared.Asked.the-variants as asked

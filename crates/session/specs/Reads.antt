@@ -5,7 +5,7 @@ use mathlib.Core.List.{List}
 use lib.ListN.{length}
 use Rattle.rules.specs.declared.Answer.{Answer}
 use Rattle.rules.specs.declared.Answer.the-variants.{Accepted, Refused}
-use Rattle.step.specs.Shown.{placesOf}
+use Rattle.kept.specs.Shown.{placesOf}
 use Rattle.session.specs.declared.Session.{Session}
 use Rattle.session.specs.declared.Listing.{Listing}
 use Rattle.session.specs.declared.Asked.{Asked}

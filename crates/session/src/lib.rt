@@ -7,6 +7,7 @@ ghost use Rattle.session.specs.Memory.{Alive};
 
 mod reads;
 
+use kept::DEPTHS;
 pub use reads::hits;
 pub use reads::list;
 pub use reads::misses;
@@ -21,7 +22,6 @@ use rules::Page;
 use rules::REFERENCES;
 use rules::Refusal;
 use rules::SESSION_FULL;
-use step::DEPTHS;
 
 // The part of a session that is passed by value.
 pub struct Session {

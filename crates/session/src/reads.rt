@@ -4,10 +4,10 @@ ghost use Rattle.session.specs.Memory.{Valued, Listable, Counting};
 use crate::Asked;
 use crate::Listing;
 use crate::Session;
+use kept::DEPTHS;
 use rules::BAD_CAPACITY;
 use rules::CAPACITIES;
 use rules::Refusal;
-use step::DEPTHS;
 
 // The list as it stands.
 pub fn list(s: Session, places: &[u32; CAPACITIES]) -> Listing
@@ -17,7 +17,7 @@ pub fn list(s: Session, places: &[u32; CAPACITIES]) -> Listing
     let length = s.length;
     Listing {
         length,
-        places: step::show(places, length),
+        places: kept::show(places, length),
     }
 }
 
@@ -46,7 +46,7 @@ pub fn hits(s: Session, depths: &[u32; DEPTHS], c: usize) -> Asked
             place: 0,
         });
     }
-    Asked::Number(step::sum(depths, c))
+    Asked::Number(kept::sum(depths, c))
 }
 
 // How many of them were misses at capacity `c`.
@@ -66,5 +66,5 @@ pub fn misses(s: Session, depths: &[u32; DEPTHS], c: usize) -> Asked
             place: 0,
         });
     }
-    Asked::Number(s.references - step::sum(depths, c))
+    Asked::Number(s.references - kept::sum(depths, c))
 }

@@ -1,8 +1,7 @@
 -- The list step.
 --
--- What a reader must believe: what a step and a shown list promise.
+-- What a reader must believe: what a step promises.
 pub mod Stepped
-pub mod Shown
 -- Laws:
 pub mod Shifting
 pub mod EntryLengths

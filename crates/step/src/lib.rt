@@ -3,21 +3,15 @@
 // where the larger of two entries stays. Both take any memory, any number of places in use, any limit and any entries.
 mod shifting;
 
+use kept::in_use;
 use shifting::find;
 use shifting::shift_down;
 ghost use Rattle.step.specs.Stepped.{AtPlace, Carrying, Placed, Settled, Stepped};
-ghost use Rattle.kept.specs.Entries.{entry as «entry-of», larger, always};
+ghost use Rattle.kept.specs.Entries.{larger, always};
 ghost use Rattle.theory.specs.Priority.{higher as «of-higher», lower as «of-lower»};
 ghost use Prim.Native.Nat.{_<_, min};
 ghost use lib.ListN.{length};
 ghost use mathlib.Core.Path.{_≡_};
-
-mod depths;
-mod shown;
-
-pub use depths::DEPTHS;
-pub use depths::sum;
-pub use shown::show;
 
 // What a reference answers: the depth at which the old entry stood, or 0; and the places in use after it.
 pub struct Step {
@@ -35,20 +29,6 @@ struct Carried {
 struct Walked {
     found: bool,
     carried: u32,
-}
-
-// The entry of a page with a rank: the rank above, the page below, turned round since the smaller page number is the higher.
-pub fn entry(rank: u16, page: u16) -> u32
-    ensures { λ r. ⌜ r ≡ «entry-of» (λ p. rank) page ⌝ }
-{
-    (rank as u32) * 65536 + (65535 - (page as u32))
-}
-
-// No more places are in use than there are.
-fn in_use(n: usize, places: usize) -> usize
-    ensures { λ r. ⌜ r ≡ min n places ⌝ }
-{
-    if n < places { n } else { places }
 }
 
 // The entry that stays at a place.

@@ -1,6 +1,6 @@
 -- A refusal shows the empty list.
 use borrow.Author.Needs.{needs}
-use Rattle.step.specs.Shown.{placesOf}
+use Rattle.kept.specs.Shown.{placesOf}
 use Rattle.count.proofs.nothing.Statement.{statement}
 use Rattle.count.proofs.nothing.Tie as tie
 

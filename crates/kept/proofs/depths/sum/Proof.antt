@@ -4,9 +4,9 @@ use native.Mathlib.Omega.{arith}
 use mathlib.Core.Path.{_≡_, refl, ap, _∙_}
 use borrow.Author.Needs.{needs}
 use Rattle.rules.specs.Limits.{capacities}
 use Rattle.kept.specs.Tally.{upTo, upTo-step}
-use Rattle.step.proofs.depths.sum.Statement.{statement}
-use Rattle.step.proofs.depths.sum.Tie as tie
+use Rattle.kept.proofs.depths.sum.Statement.{statement}
+use Rattle.kept.proofs.depths.sum.Tie as tie
 
 abbrev Inv-loop : tie.InvT-loop
 Inv-loop depths c last total₀ d₀ total d = (total ≡ upTo depths d) × (d ≤ last) × (total ≤ d * 4294967296)

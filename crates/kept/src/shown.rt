@@ -1,6 +1,6 @@
 // The list as it is shown: pages in the order of places, and 0 past its length (rule A6).
-ghost use Rattle.step.specs.Shown.{shownPlaces};
+ghost use Rattle.kept.specs.Shown.{shownPlaces};
 ghost use Rattle.kept.specs.Entries.{pageOf};
 ghost use mathlib.Core.Path.{_≡_};
 use crate::in_use;
 use rules::CAPACITIES;

@@ -1,9 +1,9 @@
 -- The code makes the entry as the definition does.
 use mathlib.Core.Path.{refl}
 use borrow.Author.Needs.{needs}
 use Rattle.kept.specs.Entries.{entry}
-use Rattle.step.proofs.entry.Statement.{statement}
-use Rattle.step.proofs.entry.Tie as tie
+use Rattle.kept.proofs.entry.Statement.{statement}
+use Rattle.kept.proofs.entry.Tie as tie
 
 mul-result : tie.Need-mul-result
 mul-result c = search needs

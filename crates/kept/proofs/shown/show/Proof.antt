@@ -5,10 +5,10 @@ use mathlib.Core.Path.{_≡_}
 use mathlib.Core.List.{map}
 use lib.ListN.{take}
 use borrow.Author.Needs.{needs}
 use Rattle.kept.specs.Entries.{pageOf}
-use Rattle.step.specs.Shown.{placesOf, shown-start, shown-next, shown-end}
-use Rattle.step.proofs.shown.show.Statement.{statement}
-use Rattle.step.proofs.shown.show.Tie as tie
+use Rattle.kept.specs.Shown.{placesOf, shown-start, shown-next, shown-end}
+use Rattle.kept.proofs.shown.show.Statement.{statement}
+use Rattle.kept.proofs.shown.show.Tie as tie
 
 abbrev Inv-loop : tie.InvT-loop
 Inv-loop list n used places₀ i₀ places i = (places ≡ placesOf (map pageOf (take i list))) × (i ≤ used)

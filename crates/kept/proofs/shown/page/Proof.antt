@@ -1,9 +1,9 @@
 -- The page is read off the entry as the definition reads it.
 use mathlib.Core.Path.{refl}
 use borrow.Author.Needs.{needs}
 use Rattle.kept.specs.Entries.{pageOf}
-use Rattle.step.proofs.shown.page.Statement.{statement}
-use Rattle.step.proofs.shown.page.Tie as tie
+use Rattle.kept.proofs.shown.page.Statement.{statement}
+use Rattle.kept.proofs.shown.page.Tie as tie
 
 sub-result : tie.Need-sub-result
 sub-result c = search needs
