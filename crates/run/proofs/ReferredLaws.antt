@@ -1,6 +1,5 @@
 -- A reference by the policy's number: one law for LRU, which asks for no rank, and one for the policies that do; and
--- references one
--- after the other.
+-- references one after the other.
 use Prim.Native.Nat.{ℕ, _+_, _-_}
 use native.Mathlib.Omega.{arith}
 use native.Mathlib.Numerals.{add-one}

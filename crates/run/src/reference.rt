@@ -1,7 +1,6 @@
 // References to all that is kept of a run, by the policy's number: the loop and the step that whole traces and sessions share, a
 // session with one page at a time. They take any memory and any numbers, so nobody has to have checked them. The step is
-// called in
-// one place only, so that the compiler can put it into the loop.
+// called in one place only, so that the compiler can put it into the loop.
 ghost use Prim.Native.Nat.{_-_};
 ghost use mathlib.Core.Path.{_≡_};
 ghost use lib.ListN.{getD};
@@ -165,9 +164,8 @@ fn left_at(left: u16, i: usize) -> u16
 }
 
 // References to pages, one after the other, in a list of `n` places that may grow to `k`: each depth is counted, and the
-// answer is the
-// last one. Where the policy looks ahead, `left` is how many references the trace has from the first of these on, and `nexts` has
-// each one's next rank.
+// answer is the last one. Where the policy looks ahead, `left` is how many references the trace has from the first of these
+// on, and `nexts` has each one's next rank.
 pub fn refer_all(
     policy: u8,
     k: usize,

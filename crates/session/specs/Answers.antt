@@ -35,6 +35,10 @@ abbrev pub depthAs : Answer → ℕ → Depth
 depthAs Accepted d = depths.Accepted d
 depthAs (Refused r) d = depths.Refused r
 
+-- a refused reference: its number, and the session as it was
+abbrev pub refusedWith : Session → ℕ → Referenced
+refusedWith s number = record { depth = depths.Refused (record { number = number; place = 0 }); session = s }
+
 -- a reference answers its depth, and gives the session with one call more
 pub record Referring (s : Session) (page : ℕ) (places depths counts places′ depths′ counts′ : List ℕ)
     (r : Referenced) : Type 0 where

@@ -80,8 +80,7 @@ module _ {policy k page : ℕ} {calls : List ℕ} {s : Session} {p q n p′ q′
 
 module _ {policy k : ℕ} {calls : List ℕ} {s : Session} (v : Value policy k calls s) where
   -- of a list that was read: its length is at most K, it shows 0 past it, and (D3) the pages in its first C places are those
-  -- of the
-  -- plain cache of C frames after the references accepted
+  -- of the plain cache of C frames after the references accepted
   module _ {places : List ℕ} (stand : Places policy k calls places) {r : Listing} (read : ListRead s places r) where
     long : r .length ≡ length (listNow policy k calls)
     long = read .length-is policy k calls v stand
@@ -103,8 +102,7 @@ module _ {policy k : ℕ} {calls : List ℕ} {s : Session} (v : Value policy k c
         (list-is-cache (policyOf policy) (policy-order policy) c k low high (acceptedOf calls) [] page)
 
   -- of numbers that were read at a capacity: the hits are those of a whole trace with the same references, and (A5) hits and
-  -- misses
-  -- add up to the references accepted
+  -- misses add up to the references accepted
   module _ {depths : List ℕ} (tallied : Depths policy k calls depths) {c h : ℕ} (low : 1 ≤ c) (high : c ≤ k)
       (hits : HitsRead s depths c (Number h)) where
     number-is : {x y : ℕ} → Number x ≡ askedAs (capacityAnswer k c) y → x ≡ y

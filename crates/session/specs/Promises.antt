@@ -1,6 +1,5 @@
 -- A session's promises pin their whole answers: the state is a function of the history, and two answers that both meet a
--- promise are
--- equal.
+-- promise are equal.
 use Prim.Native.Nat.{ℕ}
 use mathlib.Core.Path.{_≡_, sym, _∙_}
 use mathlib.Core.List.{List}

@@ -11,7 +11,7 @@ use Rattle.session.specs.declared.Session.{Session}
 use Rattle.session.specs.declared.Depth.the-variants as answers
 use Rattle.session.specs.History.{acceptedOf}
 use Rattle.session.specs.Memory.{Gives}
-use Rattle.session.specs.Answers.{Referring}
+use Rattle.session.specs.Answers.{Referring, refusedWith}
 use Rattle.session.specs.ReferLaws.{accepted-full, accepted-bad}
 use Rattle.session.specs.SessionLaws.{advanced, OnePage, refer-depth, refer-gives}
 
@@ -37,7 +37,7 @@ same-gives page e g =
 module _ {s : Session} {page : ℕ} {places depths counts : List ℕ} where
   pub refer-full : references ≤ s .references
       → Referring s page places depths counts places depths counts
-      (record { depth = answers.Refused (record { number = sessionFull; place = 0 }); session = s })
+      (refusedWith s sessionFull)
   refer-full h =
       record {
         answer = λ policy k calls g. rw (le-leb references (length (acceptedOf calls)) (omega (arith, g .value .references-are)));
@@ -46,7 +46,7 @@ module _ {s : Session} {page : ℕ} {places depths counts : List ℕ} where
 
   pub refer-bad : s .references < references → pages ≤ page
       → Referring s page places depths counts places depths counts
-      (record { depth = answers.Refused (record { number = badPage; place = 0 }); session = s })
+      (refusedWith s badPage)
   refer-bad h p =
       record {
         answer =

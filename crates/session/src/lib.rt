@@ -2,7 +2,7 @@
 // that the caller lends, so that a reference copies no table; what they hold together is a function of the session's history
 // (specs/Memory.antt), and that some history gives them is all that a call asks.
 ghost use mathlib.Core.Path.{_≡_};
-ghost use Rattle.session.specs.Answers.{Starting, Referring};
+ghost use Rattle.session.specs.Answers.{Starting, Referring, refusedWith};
 ghost use Rattle.session.specs.Memory.{Alive};
 
 mod reads;
@@ -101,6 +101,16 @@ pub fn start(
     })
 }
 
+// A refused reference: its number, and the session as it is.
+fn refused(s: Session, number: u8) -> Referenced
+    ensures { λ r. ⌜ r ≡ refusedWith s number ⌝ }
+{
+    Referenced {
+        depth: Depth::Refused(Refusal { number, place: 0 }),
+        session: s,
+    }
+}
+
 // One reference. An accepted one answers its depth, or 0 if the page was not in the list; a refused one leaves everything as
 // it is.
 pub fn refer(
@@ -116,23 +126,11 @@ pub fn refer(
         (now (places .exit)) (now (depths .exit)) (now (counts .exit)) r ⌝ }
 {
     if REFERENCES <= s.references {
-        return Referenced {
-            depth: Depth::Refused(Refusal {
-                number: SESSION_FULL,
-                place: 0,
-            }),
-            session: s,
-        };
+        return refused(s, SESSION_FULL);
     }
     let p = page.0;
     if PAGES <= p {
-        return Referenced {
-            depth: Depth::Refused(Refusal {
-                number: BAD_PAGE,
-                place: 0,
-            }),
-            session: s,
-        };
+        return refused(s, BAD_PAGE);
     }
     let mut length = s.length;
     // LRU and LFU look nothing up
@@ -149,11 +147,12 @@ pub fn refer(
         depths,
         counts,
     );
+    let references = s.references + 1;
     let next = Session {
         policy: s.policy,
         k: s.k,
         length,
-        references: s.references + 1,
+        references,
     };
     Referenced {
         depth: Depth::Accepted(depth),

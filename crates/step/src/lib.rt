@@ -87,8 +87,7 @@ fn at_place(list: &mut [u32], i: usize, old: u32, carried: u32) -> Walked
 }
 
 // Carries `first` down the list, to the old entry's place or to the end: at each place the larger entry stays. It takes two
-// places a
-// turn: under LFU over 1,000 pages that was measured at 56 ns a reference, one place a turn at 60.
+// places a turn: under LFU over 1,000 pages that was measured at 56 ns a reference, one place a turn at 60.
 fn carry_lower(list: &mut [u32], old: u32, first: u32) -> Carried
     ensures { λ r. ⌜ Carrying larger old first (now (list .entry)) (now (list .exit)) r ⌝ }
 {
