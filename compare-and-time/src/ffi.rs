@@ -1,5 +1,5 @@
-//! The functions of crates/exports, declared as that crate has them. Nothing checks these lines against it, so they are
-//! kept few and in its order.
+//! The functions of crates/exports and crates/row_exports, declared as those crates have them. Nothing checks these lines
+//! against them, so they are kept few and in their order.
 
 use crate::simulator::Refusal;
 

@@ -1,5 +1,5 @@
--- For whoever drives a session or a row through the exported calls: what a start leaves is what the other calls ask, and so is
--- what each of them leaves.
+-- For whoever drives a session through the exported calls: what a start leaves is what the other calls ask, and so is what each of
+-- them leaves.
 use Prim.Native.Nat.{ℕ}
 use native.Mathlib.Omega.{arith}
 use mathlib.Core.Bool.{not}
@@ -14,15 +14,10 @@ use Rattle.session.specs.History.{startAnswer}
 use Rattle.session.specs.Memory.{Valued, Listable, Counting}
 use Rattle.session.specs.StartLaws.{start-begun, start-gives}
 use Rattle.session.specs.Driving.{listable, counting, valued}
-use Rattle.row_theory.specs.States.{Call}
-use Rattle.row_theory.specs.Runs.{Reached}
-use Rattle.row_theory.specs.Promise.{Memory, rowIn, Stands, FreshRow}
 use Rattle.exports.specs.declared.Told.{Told}
 use Rattle.exports.specs.declared.ToldNumber.{ToldNumber}
-use Rattle.exports.specs.declared.frame_row.Replied.{Replied}
 use Rattle.exports.specs.Lent.{Lent}
 use Rattle.exports.specs.Session.{Lives, startLent, StartTold, ReferTold}
-use Rattle.exports.specs.Row.{RowTold}
 
 -- what the calls of a session ask of the memory that they are lent
 pub record SessionAsks (m : Lent) : Type 0 where
@@ -57,18 +52,3 @@ refer-asks {page = page} asks p =
     let a = asks .refer in
     alive-asks
     (record { policy = a .policy; k = a .k; calls = page ∷ a .calls; gives = p .next (a .policy) (a .k) (a .calls) (a .gives) })
-
--- what the calls of a row ask of the memory that they are lent: the five calls, and the victim's of its part
-pub record RowAsks (m : Memory) : Type 0 where
-  pub call : Stands m
-  pub victim : Reached (rowIn m)
-
-stands-asks : {m : Memory} → Stands m → RowAsks m
-stands-asks s = record { call = s; victim = s .reached }
-
-pub fresh-asks : {m : Memory} → FreshRow m → RowAsks m
-fresh-asks p = stands-asks (p .stands)
-
--- whether the call is accepted or refused
-pub call-asks : {m m′ : Memory} {call : Call} {told : Replied} → RowTold m call told m′ → RowAsks m′
-call-asks p = stands-asks (p .stands)

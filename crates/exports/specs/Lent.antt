@@ -1,30 +1,9 @@
--- What the caller lends, as a contract has it: now (before a call), at its entry and at its exit.
+-- A session that the caller lends, as a contract has it: now (before a call), at its entry and at its exit.
 use Prim.Native.Nat.{ℕ}
 use mathlib.Core.List.{List}
 use denote.Ref.{RefT}
-use denote.Triple.Both.{Both}
+use Rattle.rules.specs.Lent.{Changed}
 use Rattle.session.specs.declared.Session.{Session}
-use Rattle.row_theory.specs.Row.{Row}
-use Rattle.row_theory.specs.Promise.{Memory, memory}
-
--- a lent number or table, named in a promise
-abbrev pub Changed : Type 0 → Type 0
-Changed A = Both (RefT A) (RefT A)
-
--- a row: slots, places, states, front, number held
-abbrev pub rowNow : RefT (List ℕ) → RefT (List ℕ) → RefT (List ℕ) → RefT ℕ → RefT ℕ → Memory
-rowNow slots places states front held = memory (slots .now) (places .now) (states .now) (front .now) (held .now)
-
-module _ (slots places states : Changed (List ℕ)) (front held : Changed ℕ) where
-  abbrev pub rowAtEntry : Memory
-  rowAtEntry = rowNow (slots .entry) (places .entry) (states .entry) (front .entry) (held .entry)
-
-  abbrev pub rowAtExit : Memory
-  rowAtExit = rowNow (slots .exit) (places .exit) (states .exit) (front .exit) (held .exit)
-
--- the part of it that a victim is asked of
-abbrev pub askedRow : RefT (List ℕ) → RefT (List ℕ) → ℕ → ℕ → Row
-askedRow slots states front held = record { slots = slots .now; states = states .now; front = front; held = held }
 
 -- a session: its value and its three tables
 pub record Lent : Type 0 where

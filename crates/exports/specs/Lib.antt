@@ -3,13 +3,11 @@
 pub mod Lent
 pub mod Told
 pub mod Trace
-pub mod Row
 pub mod File
 pub mod Session
 -- Laws: that the proved functions' promises give these, that two answers that meet one are equal, and that what one call
 -- leaves is what the next asks.
 pub mod TraceLaws
-pub mod RowLaws
 pub mod FileLaws
 pub mod SessionLaws
 pub mod Once

@@ -2,19 +2,14 @@
 use Prim.Native.Nat.{ℕ}
 use mathlib.Core.Path.{_≡_, sym, _∙_}
 use mathlib.Core.List.{List}
-use Rattle.row_theory.specs.States.{Call}
-use Rattle.row_theory.specs.Promise.{Memory}
-use Rattle.row_theory.specs.PromiseLaws.{same-memory}
 use Rattle.file_theory.specs.Decoding.{Outcome, Trace}
 use Rattle.session.specs.declared.Session.{Session}
 use Rattle.session.specs.Memory.{Listable, Counting}
 use Rattle.session.specs.Promises.{gives-unique}
 use Rattle.exports.specs.declared.Told.{Told}
-use Rattle.exports.specs.declared.frame_row.Replied.{Replied}
 use Rattle.exports.specs.declared.ToldNumber.{ToldNumber}
 use Rattle.exports.specs.Trace.{CountTold, ListTold}
 use Rattle.exports.specs.File.{FileTold}
-use Rattle.exports.specs.Row.{RowTold}
 use Rattle.exports.specs.Lent.{Lent}
 use Rattle.exports.specs.Session.{Given, StartTold, ReferTold, ListShown, HitsTold, MissesTold}
 
@@ -36,10 +31,6 @@ file-told-once p q = (
   p .refs-table ∙ sym (q .refs-table),
   p .counts ∙ sym (q .counts),
 )
-
-pub row-told-once : {m m₁ m₂ : Memory} {call : Call} {a b : Replied} → RowTold m call a m₁ → RowTold m call b m₂
-    → (a ≡ b) × (m₁ ≡ m₂)
-row-told-once p q = (p .answer ∙ sym (q .answer), same-memory (p .next ∙ sym (q .next)) (p .stands) (q .stands))
 
 pub start-told-once : {policy k : ℕ} {m m₁ m₂ : Lent} {a b : Told} → StartTold policy k m m₁ a → StartTold policy k m m₂ b
     → (a ≡ b) × (m₁ ≡ m₂)

@@ -1,15 +1,13 @@
-// The proved functions for callers in C and Rust: numbers, slices and lent tables only. Nothing is decided here: each
-// function hands on to a proved one and tells its answer in numbers, and its promise says so. A result is at most two
+// Traces, lists, sessions, files and the report for callers in C and Rust: numbers, slices and lent tables only (rows and banks:
+// `row_exports`). Nothing is decided here: each function hands on to a proved one and tells its answer in numbers, and its promise says so. A result is at most two
 // words, since wider ones are handed back in another way on Arm than on x86-64.
 ghost use mathlib.Core.Path.{_≡_};
 ghost use Rattle.exports.specs.Told.{toldOf};
 
-mod frame_row;
 mod report;
 mod session_reads;
 mod sessions;
 mod trace_file;
-mod victim;
 mod whole_trace;
 
 use rules::Answer;

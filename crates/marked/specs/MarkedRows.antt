@@ -6,12 +6,10 @@ use mathlib.Core.List.{List, [], _∷_, _++_, map}
 use lib.ListN.{replicate}
 use Rattle.rules.specs.Case.{Case, gotten, wished}
 use Rattle.row_theory.specs.States.{Call}
-use Rattle.row_theory.specs.Row.{replyNumber, examinedOf}
+use Rattle.row_theory.specs.Row.{replyNumber, examinedOf, victimShown}
 use Rattle.row_theory.specs.Runs.{answersOf, victimAfterCalls}
 use Rattle.row_theory.specs.Promise.{asked}
 use Rattle.row_theory.specs.declared.Event.the-variants as event
-use Rattle.row_theory.specs.declared.Victim.{Victim}
-use Rattle.row_theory.specs.declared.Victim.the-variants as victim
 
 abbrev put : ℕ → Call
 put f = asked event.Put f
@@ -25,11 +23,7 @@ start f = asked event.Start f
 abbrev drop : ℕ → Call
 drop f = asked event.Drop f
 
--- number and frame of a victim after these calls; 0 for no refusal, and for no frame
-abbrev victimShown : Victim → List ℕ
-victimShown (victim.Given f) = 0 ∷ f .0 ∷ []
-victimShown (victim.Refused r) = r .number ∷ 0 ∷ []
-
+-- number and frame of the victim after these calls
 abbrev victimAt : List Call → List ℕ
 victimAt calls = victimShown (victimAfterCalls calls)
 

@@ -6,7 +6,10 @@
 mod slots;
 mod table;
 
+use row_theory::ABSENT;
+use row_theory::BUSY;
 use row_theory::Event;
+use row_theory::IDLE;
 use row_theory::PerFrame;
 use row_theory::PerSlot;
 use row_theory::Reply;
@@ -20,15 +23,13 @@ use rules::SLOTS;
 use slots::EMPTY;
 use slots::NOWHERE;
 use slots::shift;
-use table::ABSENT;
-use table::BUSY;
-use table::IDLE;
 use table::held_bit;
 use table::verdict;
 ghost use mathlib.Core.Path.{_≡_};
 ghost use Rattle.row_theory.specs.Runs.{Reached};
 ghost use Rattle.row_theory.specs.Row.{anyFrame, hasMark};
-ghost use Rattle.row_theory.specs.Promise.{memory, rowWith, Stands, asked, Answered, FreshRow, Oldest-idle, stateIn};
+ghost use Rattle.row_theory.specs.Promise.{Stands, asked, Answered, FreshRow, Oldest-idle, stateIn};
+ghost use Rattle.row_theory.specs.LentRow.{rowNow, rowAtEntry, rowAtExit, askedRow};
 
 // The mark that lets `victim_among` give a frame up; any other number keeps it.
 pub const GIVABLE: u8 = 1;
@@ -43,11 +44,9 @@ pub fn call(
     event: Event,
     frame: Frame,
 ) -> Reply
-    requires { ⌜ Stands (memory (now slots) (now places) (now states) (now front) (now held)) ⌝ }
-    ensures { λ r. ⌜ Answered
-        (memory (now (slots .entry)) (now (places .entry)) (now (states .entry)) (now (front .entry)) (now (held .entry)))
-        (asked event (frame .0)) r
-        (memory (now (slots .exit)) (now (places .exit)) (now (states .exit)) (now (front .exit)) (now (held .exit))) ⌝ }
+    requires { ⌜ Stands (rowNow slots places states front held) ⌝ }
+    ensures { λ r. ⌜ Answered (rowAtEntry slots places states front held) (asked event (frame .0)) r
+        (rowAtExit slots places states front held) ⌝ }
 {
     let f = frame.0;
     let n = *held;
@@ -73,8 +72,7 @@ pub fn fresh(
     front: &mut usize,
     held: &mut usize,
 )
-    ensures { λ r. ⌜ FreshRow
-        (memory (now (slots .exit)) (now (places .exit)) (now (states .exit)) (now (front .exit)) (now (held .exit))) ⌝ }
+    ensures { λ r. ⌜ FreshRow (rowAtExit slots places states front held) ⌝ }
 {
     *slots = [EMPTY; SLOTS];
     *places = [NOWHERE; FRAMES as usize];
@@ -93,9 +91,8 @@ pub fn victim_among(
     front: usize,
     held: usize,
 ) -> Victim
-    requires { ⌜ Reached (rowWith (now slots) (now states) front held) ⌝ }
-    ensures { λ r. ⌜ Oldest-idle (rowWith (now (slots .entry)) (now (states .entry)) front held)
-        (hasMark (now (marks .entry))) r ⌝ }
+    requires { ⌜ Reached (askedRow slots states front held) ⌝ }
+    ensures { λ r. ⌜ Oldest-idle (askedRow (slots .entry) (states .entry) front held) (hasMark (now (marks .entry))) r ⌝ }
 {
     let mut i = SLOTS;
     while front < i {
@@ -123,8 +120,8 @@ pub fn victim_among(
 
 // The oldest idle frame (rule W7). The states serve as marks: idle reads 1, so every idle frame bears one.
 pub fn victim(slots: &PerSlot, states: &PerFrame, front: usize, held: usize) -> Victim
-    requires { ⌜ Reached (rowWith (now slots) (now states) front held) ⌝ }
-    ensures { λ r. ⌜ Oldest-idle (rowWith (now (slots .entry)) (now (states .entry)) front held) anyFrame r ⌝ }
+    requires { ⌜ Reached (askedRow slots states front held) ⌝ }
+    ensures { λ r. ⌜ Oldest-idle (askedRow (slots .entry) (states .entry) front held) anyFrame r ⌝ }
 {
     victim_among(slots, states, states, front, held)
 }

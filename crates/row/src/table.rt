@@ -1,5 +1,8 @@
 // The state table (rules W6, O6, R20 to R25): what a call may do to its frame.
+use row_theory::ABSENT;
+use row_theory::BUSY;
 use row_theory::Event;
+use row_theory::IDLE;
 use row_theory::PerFrame;
 use rules::BAD_FRAME;
 use rules::BUSY_FRAME;
@@ -14,12 +17,6 @@ ghost use Prim.Native.Nat.{ℕ, _≤_};
 ghost use lib.ListN.{getD};
 ghost use Rattle.row_theory.specs.States.{busy, heldBit, heldIn, tableAt, verdictOf};
 ghost use Rattle.row_theory.specs.Promise.{asked};
-
-pub(crate) const ABSENT: u8 = 0;
-
-pub(crate) const IDLE: u8 = 1;
-
-pub(crate) const BUSY: u8 = 2;
 
 // Rows absent, idle, busy; columns put, touch, start, end, drop. An entry above BUSY is a refusal.
 const NEXT: [[u8; 5]; 3] = [

@@ -36,19 +36,22 @@ movesAfter (call ∷ history) = cond (movesLast call history) 1 0 + movesAfter h
 abbrev pub MayGo : List Call → (ℕ → Bool) → ℕ → Type 0
 MayGo history may frame = (stateOf (statesAfter history) frame ≡ idle) × (may frame ≡ true)
 
--- W7: of those frames, the one whose last accepted put or touch came earliest
-pub record Victim-is (history : List Call) (may : ℕ → Bool) (frame : ℕ) : Type 0 where
-  pub mayGo : MayGo history may frame
-  pub earliest : (other : ℕ) → (frame ≡ other → ⊥) → MayGo history may other →
-      momentAfter history frame < momentAfter history other
+-- W7: of the frames that may go, the one whose last accepted put or touch came earliest
+pub record Victim-is (goes : ℕ → Type 0) (moment : ℕ → ℕ) (frame : ℕ) : Type 0 where
+  pub mayGo : goes frame
+  pub earliest : (other : ℕ) → (frame ≡ other → ⊥) → goes other → moment frame < moment other
 
--- R26, R27: there is no such frame, and the number says whether any is held
-pub record No-victim (history : List Call) (may : ℕ → Bool) (refusal : Refusal) : Type 0 where
-  pub none : (frame : ℕ) → MayGo history may frame → ⊥
-  pub number : refusal .number ≡ cond (eqb (heldIn (statesAfter history)) 0) nothingHeld allBusy
+-- R26, R27: none may go, and the number says whether any frame is held
+pub record No-victim (goes : ℕ → Type 0) (states : List ℕ) (refusal : Refusal) : Type 0 where
+  pub none : (frame : ℕ) → goes frame → ⊥
+  pub number : refusal .number ≡ cond (eqb (heldIn states) 0) nothingHeld allBusy
   pub place : refusal .place ≡ 0
 
--- what an answer to asking for a victim says of the history
+-- what an answer to asking for a victim says of the frames that may go, their moments, and the states
+abbrev pub Victim-of : (ℕ → Type 0) → (ℕ → ℕ) → List ℕ → Victim → Type 0
+Victim-of goes moment states (Given frame) = Victim-is goes moment (frame .0)
+Victim-of goes moment states (Refused refusal) = No-victim goes states refusal
+
+-- and so of the history
 abbrev pub Victim-says : List Call → (ℕ → Bool) → Victim → Type 0
-Victim-says history may (Given frame) = Victim-is history may (frame .0)
-Victim-says history may (Refused refusal) = No-victim history may refusal
+Victim-says history may victim = Victim-of (MayGo history may) (momentAfter history) (statesAfter history) victim

@@ -7,6 +7,7 @@ pub mod Row
 pub mod History
 pub mod Runs
 pub mod Promise
+pub mod LentRow
 -- What holds over any calls from a fresh row, and of any answer that meets a promise.
 pub mod Theorems
 pub mod Answers

@@ -1,7 +1,7 @@
 -- The frame row (docs/RULES.md, W1 to W7): its whole state, what each call makes of it, and what each call answers.
 use Prim.Native.Nat.{ℕ}
 use mathlib.Core.Bool.{Bool, true, cond, _&&_}
-use mathlib.Core.List.{List}
+use mathlib.Core.List.{List, [], _∷_}
 use lib.Dec.{ltb, eqb}
 use lib.ListN.{getD, replicate}
 use Rattle.rules.specs.Limits.{frames}
@@ -82,3 +82,8 @@ victimAmong may row =
 -- W7: the row's own victim
 abbrev pub victimOf : Row → Victim
 victimOf row = victimAmong anyFrame row
+
+-- the rules' number of a victim's answer (0: no refusal) and its frame (0 beside a refusal)
+abbrev pub victimShown : Victim → List ℕ
+victimShown (victim.Given f) = 0 ∷ f .0 ∷ []
+victimShown (victim.Refused r) = r .number ∷ 0 ∷ []

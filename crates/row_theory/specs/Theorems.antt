@@ -13,7 +13,7 @@ use Rattle.rules.specs.Cases.{by-cases}
 use Rattle.row_theory.specs.States.{Call, absent, busy, stateTable, stateOf, heldBit, heldIn}
 use Rattle.row_theory.specs.Slots.{Clear, framesIn}
 use Rattle.row_theory.specs.Row.{replyOf, examinedOf, anyFrame, victimAmong, victimOf}
-use Rattle.row_theory.specs.History.{statesAfter, momentAfter, movesAfter, Victim-is, Victim-says}
+use Rattle.row_theory.specs.History.{statesAfter, momentAfter, movesAfter, MayGo, Victim-is, Victim-says}
 use Rattle.row_theory.specs.Runs.{rowAfter, examinedAfter, Recent, PackedRow, rowFrom}
 use Rattle.row_theory.specs.SlotLaws.{times-framesIn}
 use Rattle.row_theory.specs.GoodStates.{good-after, busy-held}
@@ -85,7 +85,7 @@ idle-victim-says history = victim-says history anyFrame
 pub busy-no-victim : (history : List Call) (may : ℕ → Bool) (frame : ℕ) → stateOf (statesAfter history) frame ≡ busy →
     victimAmong may (rowAfter history) ≡ Given (record { 0 = frame }) → ⊥
 busy-no-victim history may frame isBusy given =
-    let says : Victim-is history may frame = rw given at (victim-says history may) in
+    let says : Victim-is (MayGo history may) (momentAfter history) frame = rw given at (victim-says history may) in
     omega (arith, says .mayGo .0)
 
 -- D1: and never dropped: whatever the call, a busy frame is not absent after it

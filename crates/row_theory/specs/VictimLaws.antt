@@ -53,7 +53,7 @@ module _ (history : List Call) (may : ℕ → Bool) where
   oldestNow = oldest (idleAmong may (statesAfter history)) (rowAfter history .slots)
 
   -- W7: if the oldest is a frame, it is the victim by moments
-  pub oldest-victim : oldestNow < frames → Victim-is history may oldestNow
+  pub oldest-victim : oldestNow < frames → Victim-is (MayGo history may) (momentAfter history) oldestNow
   oldest-victim found =
       let list = framesIn (rowAfter history .slots) in
       let test = idleAmong may (statesAfter history) in

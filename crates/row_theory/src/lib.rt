@@ -10,6 +10,13 @@ pub type PerSlot = [u8; SLOTS];
 
 pub type PerFrame = [u8; FRAMES as usize];
 
+// The states of a frame (rule W6).
+pub const ABSENT: u8 = 0;
+
+pub const IDLE: u8 = 1;
+
+pub const BUSY: u8 = 2;
+
 // What a call does to a frame: a column of the state table (rule W6).
 pub enum Event {
     Put,

@@ -4,6 +4,7 @@
 pub mod Limits
 pub mod Refusals
 pub mod Lists
+pub mod Lent
 -- A marked case, for the table of all cases:
 pub mod Case
 -- Laws:

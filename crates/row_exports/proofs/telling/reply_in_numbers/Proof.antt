@@ -1,7 +1,7 @@
--- `exports::frame_row::reply_in_numbers`: the arm that is taken knows the reply, and its numbers compute.
+-- `row_exports::telling::reply_in_numbers`: the arm that is taken knows the reply, and its numbers compute.
 use borrow.Author.Needs.{needs}
-use Rattle.exports.proofs.frame_row.reply_in_numbers.Statement.{statement}
-use Rattle.exports.proofs.frame_row.reply_in_numbers.Tie as tie
+use Rattle.row_exports.proofs.telling.reply_in_numbers.Statement.{statement}
+use Rattle.row_exports.proofs.telling.reply_in_numbers.Tie as tie
 
 enum-known-reply : tie.Need-enum-known-reply
 enum-known-reply c = search needs

@@ -1,7 +1,7 @@
--- `exports::victim::victim_in_numbers`: the arm that is taken knows the victim, and its numbers compute.
+-- `row_exports::telling::victim_in_numbers`: the arm that is taken knows the victim, and its numbers compute.
 use borrow.Author.Needs.{needs}
-use Rattle.exports.proofs.victim.victim_in_numbers.Statement.{statement}
-use Rattle.exports.proofs.victim.victim_in_numbers.Tie as tie
+use Rattle.row_exports.proofs.telling.victim_in_numbers.Statement.{statement}
+use Rattle.row_exports.proofs.telling.victim_in_numbers.Tie as tie
 
 enum-known-victim : tie.Need-enum-known-victim
 enum-known-victim c = search needs

@@ -1,8 +1,8 @@
--- `exports::victim::musselrung_row_victim`: what `row::victim` promises, told in numbers.
+-- `row_exports::frame_row::musselrung_row_victim`: what `row::victim` promises, told in numbers.
 use mathlib.Core.Path.{_∙_}
 use borrow.Author.Needs.{needs}
-use Rattle.exports.proofs.victim.musselrung_row_victim.Statement.{statement}
-use Rattle.exports.proofs.victim.musselrung_row_victim.Tie as tie
+use Rattle.row_exports.proofs.frame_row.musselrung_row_victim.Statement.{statement}
+use Rattle.row_exports.proofs.frame_row.musselrung_row_victim.Tie as tie
 
 victim-requires : tie.Need-victim-requires
 victim-requires c κs = search needs
