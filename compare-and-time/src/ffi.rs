@@ -1,7 +1,10 @@
 //! The functions of crates/exports and crates/row_exports, declared as those crates have them. Nothing checks these lines
 //! against them, so they are kept few and in their order.
 
+pub mod banks;
+
 use crate::simulator::Refusal;
+use crate::subject::Answer;
 
 /// An answer in numbers: 0, or the number of a refusal, and its place.
 #[repr(C)]
@@ -49,6 +52,14 @@ pub struct Replied {
     pub place: usize,
 }
 
+impl Replied {
+    #[inline]
+    pub fn result(self) -> Answer {
+        let Replied { number, examined, place } = self;
+        (Told { number, place }.result(), usize::from(examined))
+    }
+}
+
 /// A victim: 0, or the number of a refusal; the frame; the refusal's place.
 #[repr(C)]
 #[derive(Clone, Copy)]
@@ -56,6 +67,15 @@ pub struct Chosen {
     pub number: u8,
     pub frame: u8,
     pub place: usize,
+}
+
+impl Chosen {
+    #[inline]
+    pub fn result(self) -> Result<u8, Refusal> {
+        let Chosen { number, frame, place } = self;
+        assert!(number == 0 || frame == 0, "a refusal gave a frame");
+        Told { number, place }.result().map(|()| frame)
+    }
 }
 
 /// A row's memory, as each of its calls is lent it.

@@ -40,6 +40,7 @@ fn main() {
             let mut lines = time::whole_traces::<of_proved::Proved, of_plain::Plain>();
             lines.extend(time::sessions::<of_proved::Session, plain::session::Session>());
             lines.extend(time::rows::<of_proved::Row, plain::row::Row>());
+            lines.extend(time::banks::<of_proved::Banks, plain::banks::Banks>());
             print!("{}", time::table(&lines));
             Ok(())
         }

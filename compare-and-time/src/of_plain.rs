@@ -1,15 +1,17 @@
 //! The plain Rust versions as subjects: a baseline that answers something else is no baseline.
 
-use crate::compare::{row, session, trace, Subject};
+use crate::compare::{banks, row, session, trace, Subject};
 use crate::plain;
-use crate::simulator::row::{Call, CALLS};
+use crate::simulator::banks::BankCall;
+use crate::simulator::row::Call;
 use crate::simulator::{refusal, Refusal};
-use crate::subject::{Counts, Memory, Rows, Sessions};
+use crate::subject::{Answer, Banks, Counts, Memory, Rows, Sessions};
 
 pub fn subjects() -> Vec<Subject> {
     let mut subjects = trace::subjects::<Plain>();
     subjects.extend(session::subjects::<plain::session::Session>());
     subjects.extend(row::subjects::<plain::row::Row>());
+    subjects.extend(banks::subjects::<plain::banks::Banks>());
     subjects
 }
 
@@ -51,17 +53,21 @@ impl Sessions for plain::session::Session {
     }
 }
 
+fn answer(said: Result<usize, u8>) -> Answer {
+    match said {
+        Ok(examined) => (Ok(()), examined),
+        Err(refused) => (Err(refusal(refused)), 0),
+    }
+}
+
+// the plain versions number the five calls as `Call` has them
 impl Rows for plain::row::Row {
     fn fresh() -> Self {
         plain::row::Row::new()
     }
 
-    fn call(&mut self, call: Call, frame: u8) -> (Result<(), Refusal>, usize) {
-        let number = CALLS.iter().position(|&other| other == call).unwrap();
-        match plain::row::Row::call(self, number, frame) {
-            Ok(examined) => (Ok(()), examined),
-            Err(refused) => (Err(refusal(refused)), 0),
-        }
+    fn call(&mut self, call: Call, frame: u8) -> Answer {
+        answer(plain::row::Row::call(self, call as usize, frame))
     }
 
     fn victim(&self) -> Result<u8, Refusal> {
@@ -70,5 +76,38 @@ impl Rows for plain::row::Row {
 
     fn memory(&self) -> Memory {
         self.memory()
+    }
+}
+
+impl Rows for plain::banks::Banks {
+    fn fresh() -> Self {
+        plain::banks::Banks::new()
+    }
+
+    fn call(&mut self, call: Call, frame: u8) -> Answer {
+        answer(plain::banks::Banks::call(self, call as usize, frame))
+    }
+
+    fn victim(&self) -> Result<u8, Refusal> {
+        plain::banks::Banks::victim(self).map_err(refusal)
+    }
+
+    fn memory(&self) -> Memory {
+        self.memory()
+    }
+}
+
+impl Banks for plain::banks::Banks {
+    fn bank_call(&mut self, call: BankCall, bank: u8) -> Answer {
+        let said = match call {
+            BankCall::Close => self.close(bank),
+            BankCall::Cut => self.cut(bank),
+            BankCall::Open => self.open(bank),
+        };
+        answer(said.map(|()| 0))
+    }
+
+    fn gates(&self) -> [u8; 64] {
+        self.gates()
     }
 }

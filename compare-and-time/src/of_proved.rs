@@ -1,17 +1,22 @@
 //! The proved library as a subject: each call is one exported function.
 
-use crate::compare::{file, list, row, session, trace, Subject};
+mod banks;
+
+pub use banks::Banks;
+
+use crate::compare::{self, file, list, row, session, trace, Subject};
 use crate::ffi;
 use crate::simulator::file::File;
 use crate::simulator::row::Call;
 use crate::simulator::Refusal;
-use crate::subject::{Counts, Files, Lists, Memory, Rows, Sessions};
+use crate::subject::{Answer, Counts, Files, Lists, Memory, Rows, Sessions};
 
 pub fn subjects() -> Vec<Subject> {
     let mut subjects = trace::subjects::<Proved>();
     subjects.extend(list::subjects::<Proved>());
     subjects.extend(session::subjects::<Session>());
     subjects.extend(row::subjects::<Row>());
+    subjects.extend(compare::banks::subjects::<Banks>());
     subjects.extend(file::subjects::<Proved>());
     subjects
 }
@@ -123,19 +128,22 @@ impl Sessions for Session {
     }
 }
 
+/// What a row's memory has before the library makes it a fresh row.
+const CLUTTERED: Memory = Memory { slots: [9; 64], places: [9; 64], states: [9; 64], front: 9, held: 9 };
+
 /// A frame row in memory of ours; only the library writes it.
 pub struct Row(Memory);
 
 impl Rows for Row {
     fn fresh() -> Row {
-        let mut memory = Memory { slots: [9; 64], places: [9; 64], states: [9; 64], front: 9, held: 9 };
+        let mut memory = CLUTTERED;
         let Memory { slots, places, states, front, held } = &mut memory;
         unsafe { ffi::musselrung_row_fresh(slots, places, states, front, held) };
         Row(memory)
     }
 
     #[inline]
-    fn call(&mut self, call: Call, frame: u8) -> (Result<(), Refusal>, usize) {
+    fn call(&mut self, call: Call, frame: u8) -> Answer {
         let function: ffi::RowCall = match call {
             Call::Put => ffi::musselrung_row_put,
             Call::Touch => ffi::musselrung_row_touch,
@@ -144,16 +152,13 @@ impl Rows for Row {
             Call::Drop => ffi::musselrung_row_drop,
         };
         let Memory { slots, places, states, front, held } = &mut self.0;
-        let ffi::Replied { number, examined, place } = unsafe { function(slots, places, states, front, held, frame) };
-        (ffi::Told { number, place }.result(), usize::from(examined))
+        unsafe { function(slots, places, states, front, held, frame) }.result()
     }
 
     #[inline]
     fn victim(&self) -> Result<u8, Refusal> {
         let Memory { slots, states, front, held, .. } = &self.0;
-        let ffi::Chosen { number, frame, place } = unsafe { ffi::musselrung_row_victim(slots, states, *front, *held) };
-        assert!(number == 0 || frame == 0, "a refusal gave a frame");
-        ffi::Told { number, place }.result().map(|()| frame)
+        unsafe { ffi::musselrung_row_victim(slots, states, *front, *held) }.result()
     }
 
     fn memory(&self) -> Memory {

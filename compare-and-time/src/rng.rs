@@ -38,4 +38,16 @@ impl Rng {
     pub fn pick<T: Copy>(&mut self, of: &[T]) -> T {
         of[self.below(of.len())]
     }
+
+    /// One of them, each as often as its share of the sum says.
+    pub fn pick_by<T: Copy>(&mut self, of: &[T], shares: &[usize]) -> T {
+        let mut at = self.below(shares.iter().sum());
+        for (&one, &share) in of.iter().zip(shares) {
+            if at < share {
+                return one;
+            }
+            at -= share;
+        }
+        unreachable!("a number below the sum of the shares lies in one of them")
+    }
 }

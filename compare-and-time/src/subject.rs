@@ -1,6 +1,7 @@
 //! What the harness asks of a library, subject by subject. The proved library answers through `ffi`, the plain Rust
 //! versions directly, and both are held to the simulator.
 
+use crate::simulator::banks::{Asked, BankCall};
 use crate::simulator::file::File;
 use crate::simulator::row::Call;
 use crate::simulator::Refusal;
@@ -37,12 +38,29 @@ pub struct Memory {
     pub held: usize,
 }
 
+/// The refusal if any, and the slots examined.
+pub type Answer = (Result<(), Refusal>, usize);
+
 pub trait Rows {
     fn fresh() -> Self;
-    /// The refusal if any, and the slots examined.
-    fn call(&mut self, call: Call, frame: u8) -> (Result<(), Refusal>, usize);
+    fn call(&mut self, call: Call, frame: u8) -> Answer;
     fn victim(&self) -> Result<u8, Refusal>;
     fn memory(&self) -> Memory;
+}
+
+/// A row under banks is asked all that a row is, and the bank calls.
+pub trait Banks: Rows + Clone {
+    fn bank_call(&mut self, call: BankCall, bank: u8) -> Answer;
+    /// The rest of the memory: for each frame the state of its bank (0 off, 1 open, 2 closing).
+    fn gates(&self) -> [u8; 64];
+
+    #[inline]
+    fn ask(&mut self, asked: Asked) -> Answer {
+        match asked {
+            Asked::Frame(call, frame) => self.call(call, frame),
+            Asked::Bank(call, bank) => self.bank_call(call, bank),
+        }
+    }
 }
 
 pub trait Files {

@@ -1,11 +1,16 @@
 //! Times the proved functions beside plain Rust, in the same run and on the same input: many short rounds, one side
 //! right after the other, and of those the median.
 
+mod banks;
+
+pub use banks::banks;
+
 use crate::gen::{self, Kind};
 use crate::rng::Rng;
-use crate::simulator::row::{Call, Row, CALLS};
+use crate::simulator::banks::{Asked, Banks};
+use crate::simulator::row::{Call, CALLS};
 use crate::simulator::REFERENCES;
-use crate::subject::{Counts, Rows, Sessions};
+use crate::subject::{Answer, Counts, Rows, Sessions};
 use std::hint::black_box;
 use std::time::Instant;
 
@@ -34,18 +39,22 @@ fn median(mut numbers: Vec<f64>) -> f64 {
     numbers[numbers.len() / 2]
 }
 
-/// One of each side, one right after the other.
-fn round(proved: &mut dyn FnMut(), plain: &mut dyn FnMut()) -> (f64, f64) {
-    (nanoseconds(proved), nanoseconds(plain))
+fn race(work: String, bar: f64, units: usize, proved: &mut dyn FnMut(), plain: &mut dyn FnMut()) -> Line {
+    race_timed(work, bar, units, &mut || nanoseconds(proved), &mut || nanoseconds(plain))
 }
 
-fn race(work: String, bar: f64, units: usize, proved: &mut dyn FnMut(), plain: &mut dyn FnMut()) -> Line {
+/// What takes the nanoseconds of its round itself, and so leaves out what it prepares.
+type Timed<'a> = &'a mut dyn FnMut() -> f64;
+
+fn race_timed(work: String, bar: f64, units: usize, proved: Timed, plain: Timed) -> Line {
     let (mut ours, mut theirs, mut ratios) = (Vec::new(), Vec::new(), Vec::new());
+    // one of each side, one right after the other
+    let mut round = || (proved(), plain());
     for _ in 0..WARM_UP {
-        round(proved, plain);
+        round();
     }
     for _ in 0..ROUNDS {
-        let (a, b) = round(proved, plain);
+        let (a, b) = round();
         ours.push(a / units as f64);
         theirs.push(b / units as f64);
         ratios.push(a / b);
@@ -106,48 +115,47 @@ fn references<S: Sessions>(policy: u8, trace: &[u16]) {
     black_box(sum);
 }
 
-/// Calls that a working row gets, nearly all of them accepted: mostly touches, a put and a drop now and then, transfers.
-fn calls() -> Vec<(Call, u8)> {
-    let mut rng = Rng::of_case(SEED, "calls", 0);
-    let mut row = Row::fresh();
+/// The calls that a working row gets: mostly touches, a put and a drop now and then, transfers.
+fn any_call(rng: &mut Rng) -> (Call, u8) {
+    (rng.pick_by(&CALLS, &[10, 60, 10, 11, 9]), rng.below(40) as u8)
+}
+
+/// Calls that are drawn so, nearly all of them accepted: of the refused ones one in fifty is kept.
+fn mixed<T: Copy + Into<Asked>>(name: &str, drawn: fn(&mut Rng) -> T) -> Vec<T> {
+    let mut rng = Rng::of_case(SEED, name, 0);
+    let mut banks = Banks::fresh();
     let mut calls = Vec::new();
     while calls.len() < REFERENCES {
-        let call = CALLS[match rng.below(100) {
-            0..=9 => 0,
-            10..=69 => 1,
-            70..=79 => 2,
-            80..=90 => 3,
-            _ => 4,
-        }];
-        let frame = rng.below(40) as u8;
-        // one refusal in fifty is kept
-        if row.faults(call, frame).is_empty() || rng.below(50) == 0 {
-            let _ = row.call(call, frame);
-            calls.push((call, frame));
+        let call = drawn(&mut rng);
+        if banks.faults(call.into()).is_empty() || rng.below(50) == 0 {
+            let _ = banks.ask(call.into());
+            calls.push(call);
         }
     }
     calls
 }
 
 pub fn rows<A: Rows, B: Rows>() -> Vec<Line> {
-    let calls = calls();
-    let mut a = || row_calls::<A>(&calls);
-    let mut b = || row_calls::<B>(&calls);
+    let calls = mixed("calls", any_call);
+    let mut a = || drop(black_box(after(black_box(&calls), call::<A>)));
+    let mut b = || drop(black_box(after(black_box(&calls), call::<B>)));
     let moved = race("row call, a mix of all five".to_string(), 2.0, calls.len(), &mut a, &mut b);
-    let (ours, theirs) = (filled::<A>(&calls), filled::<B>(&calls));
+    let (ours, theirs) = (after(&calls, call::<A>), after(&calls, call::<B>));
     let mut a = || victims(&ours);
     let mut b = || victims(&theirs);
     vec![moved, race("row call, victim".to_string(), 2.0, VICTIMS, &mut a, &mut b)]
 }
 
-fn row_calls<R: Rows>(calls: &[(Call, u8)]) {
-    black_box(filled::<R>(black_box(calls)));
+#[inline]
+fn call<R: Rows>(row: &mut R, (call, frame): (Call, u8)) -> Answer {
+    row.call(call, frame)
 }
 
-fn filled<R: Rows>(calls: &[(Call, u8)]) -> R {
+/// A fresh row after these calls.
+fn after<R: Rows, T: Copy>(calls: &[T], ask: impl Fn(&mut R, T) -> Answer) -> R {
     let mut row = R::fresh();
-    for &(call, frame) in calls {
-        let _ = black_box(row.call(call, frame));
+    for &call in calls {
+        let _ = black_box(ask(&mut row, call));
     }
     row
 }

@@ -2,10 +2,12 @@
 //! so that any of them can be run again by itself. Some subjects draw their cases; of the others every case there is, is
 //! run in every round.
 
+pub mod banks;
 pub mod faults;
 pub mod file;
 pub mod file_bytes;
 pub mod list;
+pub mod pair;
 pub mod row;
 pub mod session;
 pub mod trace;
@@ -14,7 +16,7 @@ use crate::rng::Rng;
 use crate::simulator::cache::Caches;
 use crate::simulator::Refusal;
 use std::collections::BTreeMap;
-use std::fmt::Debug;
+use std::fmt::{Debug, Display};
 
 /// Nothing, or what differs.
 pub type Outcome = Result<(), String>;
@@ -68,7 +70,7 @@ pub fn chosen<T: Copy>(of: &[T], bits: usize) -> Vec<T> {
     (0..of.len()).filter(|bit| bits >> bit & 1 == 1).map(|bit| of[bit]).collect()
 }
 
-pub fn same<T: PartialEq + Debug>(what: &str, got: T, want: T) -> Outcome {
+pub fn same<T: PartialEq + Debug>(what: impl Display, got: T, want: T) -> Outcome {
     if got == want {
         return Ok(());
     }

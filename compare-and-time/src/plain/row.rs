@@ -1,6 +1,7 @@
 //! A frame row that changes in place.
 
 use crate::subject::Memory;
+use std::ops::Range;
 
 const FRAMES: u8 = 64;
 const SLOTS: usize = 64;
@@ -13,6 +14,7 @@ const BUSY: u8 = 2;
 
 pub const PUT: usize = 0;
 pub const TOUCH: usize = 1;
+pub const START: usize = 2;
 pub const DROP: usize = 4;
 
 /// The next state, or the number of the refusal: by state, then by put, touch, start, end, drop.
@@ -36,6 +38,12 @@ impl Row {
     /// The slots examined, or the number of the refusal.
     #[inline(never)]
     pub fn call(&mut self, call: usize, frame: u8) -> Result<usize, u8> {
+        self.step(call, frame)
+    }
+
+    /// The same, made part of the calls of what stands on the row.
+    #[inline(always)]
+    pub fn step(&mut self, call: usize, frame: u8) -> Result<usize, u8> {
         if frame >= FRAMES {
             return Err(20);
         }
@@ -102,13 +110,34 @@ impl Row {
     /// The idle frame nearest the old end, or the number of the refusal.
     #[inline(never)]
     pub fn victim(&self) -> Result<u8, u8> {
+        self.victim_among(|_| true)
+    }
+
+    /// The same among the frames that may be given.
+    #[inline(always)]
+    pub fn victim_among(&self, givable: impl Fn(u8) -> bool) -> Result<u8, u8> {
         if self.held == 0 {
             return Err(26);
         }
         let idle = |frame: u8| frame != EMPTY && self.states[usize::from(frame)] == IDLE;
-        match self.slots[self.front..].iter().rev().find(|&&frame| idle(frame)) {
+        match self.slots[self.front..].iter().rev().find(|&&frame| idle(frame) && givable(frame)) {
             Some(&frame) => Ok(frame),
             None => Err(27),
+        }
+    }
+
+    pub fn any_busy(&self, frames: Range<usize>) -> bool {
+        self.states[frames].contains(&BUSY)
+    }
+
+    /// Those of these frames that are held leave together.
+    pub fn leave(&mut self, frames: Range<usize>) {
+        for (state, place) in self.states[frames.clone()].iter_mut().zip(&self.places[frames]) {
+            if *state != ABSENT {
+                *state = ABSENT;
+                self.slots[usize::from(*place)] = EMPTY;
+                self.held -= 1;
+            }
         }
     }
 

@@ -1,6 +1,7 @@
-//! The marked cases P1 to P12 of docs/RULES.md and the sample report, on the simulator itself: the other side of every
+//! The marked cases P1 to P15 of docs/RULES.md and the sample report, on the simulator itself: the other side of every
 //! comparison has to be right first.
 
+use super::banks::{Asked, BankCall, Banks};
 use super::file::report;
 use super::row::{Call, Row};
 use super::trace::{count, list};
@@ -18,6 +19,9 @@ pub fn hold() {
     traces();
     refusals();
     row();
+    incident();
+    orders_under_banks();
+    cut_leaves_the_front();
     sample_report();
 }
 
@@ -70,6 +74,50 @@ fn row() {
     assert_eq!(row.call(Call::Put, 40), Err(refusal(25)), "P12");
     row.call(Call::Drop, 3).unwrap();
     assert_eq!(row.call(Call::Put, 40), Ok(0), "P12");
+}
+
+/// Each call is answered with the number beside it, 0 for an accepted one.
+fn banks_say(case: &str, banks: &mut Banks, calls: &[(Asked, u8)]) {
+    for &(asked, number) in calls {
+        let wanted = if number == 0 { Ok(()) } else { Err(refusal(number)) };
+        assert_eq!(banks.ask(asked).map(|_| ()), wanted, "{case}: {asked}");
+    }
+}
+
+/// A bank is cut only after the transfer in it has ended, and then all that lay in it is gone.
+fn incident() {
+    let (put, start, end) = (frame(Call::Put, 20), frame(Call::Start, 20), frame(Call::End, 20));
+    let (close, cut) = (Asked::Bank(BankCall::Close, 1), Asked::Bank(BankCall::Cut, 1));
+    let mut banks = Banks::fresh();
+    banks_say("P13", &mut banks, &[(put, 0), (start, 0), (close, 0), (cut, 31), (end, 0)]);
+    assert_eq!(banks.victim(), Err(refusal(27)), "P13: the only frame is idle, and its bank is closing");
+    banks_say("P13", &mut banks, &[(cut, 0), (frame(Call::Touch, 20), 22), (put, 33)]);
+    assert_eq!(banks.victim(), Err(refusal(26)), "P13");
+}
+
+fn frame(call: Call, frame: u8) -> Asked {
+    Asked::Frame(call, frame)
+}
+
+fn orders_under_banks() {
+    let (put, start, end) = (frame(Call::Put, 20), frame(Call::Start, 20), frame(Call::End, 20));
+    let [close, cut, open] = [BankCall::Close, BankCall::Cut, BankCall::Open].map(|call| Asked::Bank(call, 1));
+    let mut banks = Banks::fresh();
+    banks_say("P14", &mut banks, &[(put, 0), (start, 0), (cut, 30), (open, 30), (close, 0), (close, 30)]);
+    banks_say("P14", &mut banks, &[(start, 33), (frame(Call::Start, 21), 33), (put, 33), (frame(Call::Touch, 20), 0)]);
+    banks_say("P14", &mut banks, &[(cut, 31), (end, 0), (cut, 0), (close, 30), (cut, 30), (frame(Call::Put, 64), 20)]);
+    let (fourth, last) = (Asked::Bank(BankCall::Close, 4), Asked::Bank(BankCall::Cut, 255));
+    banks_say("P14", &mut banks, &[(open, 0), (put, 0), (fourth, 32), (last, 32)]);
+}
+
+fn cut_leaves_the_front() {
+    let mut banks = Banks::fresh();
+    banks_say("P15", &mut banks, &[(frame(Call::Put, 7), 0)]);
+    banks_say("P15", &mut banks, &[(frame(Call::Touch, 7), 0); 63]);
+    let cut_and_open = [BankCall::Close, BankCall::Cut, BankCall::Open].map(|call| (Asked::Bank(call, 0), 0));
+    banks_say("P15", &mut banks, &cut_and_open);
+    assert_eq!(banks.ask(frame(Call::Put, 3)), Ok(64), "P15");
+    assert_eq!(banks.victim(), Ok(3), "P15");
 }
 
 fn sample_report() {

@@ -4,6 +4,7 @@
 //! Each call has a function `faults` that lists ALL refusals that apply, in the call's order; the answer is the first
 //! (rule A2). So a comparison can also say which refusals it has seen apply at once.
 
+pub mod banks;
 pub mod cache;
 pub mod file;
 pub mod marked;
@@ -18,6 +19,8 @@ pub const PAGES: u16 = 1024; // L3: page numbers are below it
 pub const FRAMES: u8 = 64; // L4: frame numbers are below it
 pub const HELD: usize = 32; // L5
 pub const SLOTS: usize = 64; // L6
+pub const BANKS: u8 = 4; // L8: bank numbers are below it
+pub const IN_BANK: u8 = 16; // L8: frames that lie in a bank
 
 /// Rule A1.
 #[derive(Clone, Copy, PartialEq, Eq, Debug)]

@@ -22,6 +22,7 @@ pub enum State {
     Busy = 2,
 }
 
+#[derive(Clone)]
 struct Held {
     frame: u8,
     /// Of its last accepted put or touch.
@@ -29,6 +30,17 @@ struct Held {
     busy: bool,
 }
 
+impl Held {
+    fn state(&self) -> State {
+        if self.busy {
+            State::Busy
+        } else {
+            State::Idle
+        }
+    }
+}
+
+#[derive(Clone)]
 pub struct Row {
     calls: usize,
     held: Vec<Held>,
@@ -45,11 +57,12 @@ impl Row {
 
     /// A number that is no frame is absent.
     pub fn state(&self, frame: u8) -> State {
-        match self.held.iter().find(|h| h.frame == frame) {
-            None => State::Absent,
-            Some(Held { busy: false, .. }) => State::Idle,
-            Some(Held { busy: true, .. }) => State::Busy,
-        }
+        self.held.iter().find(|h| h.frame == frame).map_or(State::Absent, Held::state)
+    }
+
+    /// The held frames, each with its state.
+    pub fn held(&self) -> impl Iterator<Item = (u8, State)> + '_ {
+        self.held.iter().map(|h| (h.frame, h.state()))
     }
 
     /// Order O6: 20, then the state table W6, then 25.
@@ -81,15 +94,20 @@ impl Row {
                 let busy = call == Call::Start;
                 self.held.iter_mut().filter(|h| h.frame == frame).for_each(|h| h.busy = busy);
             }
-            Call::Drop => self.held.retain(|h| h.frame != frame),
+            Call::Drop => self.leave(|held| held == frame),
         }
         Ok(0)
+    }
+
+    /// These frames are held no more; the front stays.
+    pub fn leave(&mut self, leaves: impl Fn(u8) -> bool) {
+        self.held.retain(|h| !leaves(h.frame));
     }
 
     /// W2 to W4: the frame has no slot of its own when the others are squeezed.
     fn most_recent(&mut self, frame: u8) -> usize {
         let busy = self.state(frame) == State::Busy;
-        self.held.retain(|h| h.frame != frame);
+        self.leave(|held| held == frame);
         let examined = if self.front == 0 { SLOTS } else { 0 };
         if self.front == 0 {
             self.front = SLOTS - self.held.len();
@@ -103,10 +121,15 @@ impl Row {
 
     /// Rule W7, refusals 26 and 27.
     pub fn victim(&self) -> Result<u8, Refusal> {
+        self.victim_among(|_| true)
+    }
+
+    /// The same, where only some frames may be given.
+    pub fn victim_among(&self, givable: impl Fn(u8) -> bool) -> Result<u8, Refusal> {
         if self.held.is_empty() {
             return Err(refusal(26));
         }
-        let idle = self.held.iter().filter(|h| !h.busy);
+        let idle = self.held.iter().filter(|h| !h.busy && givable(h.frame));
         match idle.min_by_key(|h| h.moment) {
             None => Err(refusal(27)),
             Some(oldest) => Ok(oldest.frame),

@@ -1,6 +1,7 @@
-//! The slots of the row, as rules W1 to W4 move frames about in them. No answer is read off them: they are what the
-//! row's memory has to show.
+//! The slots of the row, as rules W1 to W4 and B2 move frames about in them. No answer is read off them: they are what
+//! the row's memory has to show.
 
+use super::banks::{bank_of, Asked, BankCall};
 use super::row::Call;
 use super::SLOTS;
 
@@ -16,15 +17,16 @@ impl Slots {
     }
 
     /// What an accepted call does.
-    pub fn follow(&mut self, call: Call, frame: u8) {
-        match call {
-            Call::Put => self.put(frame),
-            Call::Touch => {
+    pub fn follow(&mut self, asked: Asked) {
+        match asked {
+            Asked::Frame(Call::Put, frame) => self.put(frame),
+            Asked::Frame(Call::Touch, frame) => {
                 self.empty(frame);
                 self.put(frame);
             }
-            Call::Start | Call::End => {}
-            Call::Drop => self.empty(frame),
+            Asked::Frame(Call::Drop, frame) => self.empty(frame),
+            Asked::Bank(BankCall::Cut, bank) => self.cut(bank),
+            Asked::Frame(Call::Start | Call::End, _) | Asked::Bank(BankCall::Close | BankCall::Open, _) => {}
         }
     }
 
@@ -48,5 +50,14 @@ impl Slots {
     fn empty(&mut self, frame: u8) {
         let at = self.slots.iter().position(|slot| *slot == Some(frame)).unwrap();
         self.slots[at] = None;
+    }
+
+    /// Without a squeeze, and the front stays (B2).
+    fn cut(&mut self, bank: u8) {
+        for slot in &mut self.slots {
+            if slot.is_some_and(|frame| bank_of(frame) == bank) {
+                *slot = None;
+            }
+        }
     }
 }

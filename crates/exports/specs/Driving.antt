@@ -1,5 +1,5 @@
--- For whoever drives a session through the exported calls: what a start leaves is what the other calls ask, and so is what each of
--- them leaves.
+-- For whoever drives a session through the exported calls: what a start leaves is what the other calls ask, and so is what
+-- each of them leaves.
 use Prim.Native.Nat.{ℕ}
 use native.Mathlib.Omega.{arith}
 use mathlib.Core.Bool.{not}

@@ -1,6 +1,7 @@
-// Traces, lists, sessions, files and the report for callers in C and Rust: numbers, slices and lent tables only (rows and banks:
-// `row_exports`). Nothing is decided here: each function hands on to a proved one and tells its answer in numbers, and its promise says so. A result is at most two
-// words, since wider ones are handed back in another way on Arm than on x86-64.
+// Traces, lists, sessions, files and the report for callers in C and Rust: numbers, slices and lent tables only (rows and
+// banks: `row_exports`). Nothing is decided here: each function hands on to a proved one and tells its answer in numbers,
+// and its promise says so. A result is at most two words, since wider ones are handed back in another way on Arm than on
+// x86-64.
 ghost use mathlib.Core.Path.{_≡_};
 ghost use Rattle.exports.specs.Told.{toldOf};
 

@@ -1,1 +1,1 @@
-// No code: the marked cases P1 to P12, proved of the definitions as one statement over one table.
+// No code: the marked cases P1 to P15, proved of the definitions as one statement over one table.

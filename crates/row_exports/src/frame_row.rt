@@ -1,5 +1,5 @@
-// The frame row for callers in C and Rust: the row stands in memory that the caller lends, and only a fresh row and these calls
-// write it.
+// The frame row for callers in C and Rust: the row stands in memory that the caller lends, and only a fresh row and these
+// calls write it.
 use crate::telling::Chosen;
 use crate::telling::Replied;
 use crate::telling::reply_in_numbers;

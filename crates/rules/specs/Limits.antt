@@ -1,4 +1,4 @@
--- The limits (docs/RULES.md, L1 to L7). Each is a number of things: the largest page number is one less than `pages`.
+-- The limits (docs/RULES.md, L1 to L8). Each is a number of things: the largest page number is one less than `pages`.
 use Prim.Native.Nat.{ℕ, _<_}
 use mathlib.Core.Bool.{Bool, _&&_}
 use lib.Dec.{leb, ltb}
@@ -26,6 +26,13 @@ held = 32
 -- L6: the row has this many slots
 abbrev pub slots : ℕ
 slots = 64
+
+-- L8: bank numbers are below this, and each bank has so many frames
+abbrev pub banks : ℕ
+banks = 4
+
+abbrev pub bankFrames : ℕ
+bankFrames = 16
 
 -- L7: policy numbers are below this, and a session takes those below `opt`
 abbrev pub policies : ℕ

@@ -1,4 +1,4 @@
--- The refusal numbers (docs/RULES.md, R1 to R27), and what an answer that may be a refusal says.
+-- The refusal numbers (docs/RULES.md, R1 to R33), and what an answer that may be a refusal says.
 use Prim.Native.Nat.{ℕ, zero, suc}
 use mathlib.Core.Bool.{Bool, true, false, cond}
 use mathlib.Core.List.{List, [], _∷_}
@@ -63,6 +63,18 @@ nothingHeld = 26
 
 abbrev pub allBusy : ℕ
 allBusy = 27
+
+abbrev pub wrongBankState : ℕ
+wrongBankState = 30
+
+abbrev pub bankBusy : ℕ
+bankBusy = 31
+
+abbrev pub badBank : ℕ
+badBank = 32
+
+abbrev pub bankNotOpen : ℕ
+bankNotOpen = 33
 
 -- A1: a refusal is its number and a place
 abbrev pub refusal : ℕ → ℕ → Answer

@@ -4,12 +4,14 @@
 ghost use mathlib.Core.Path.{_≡_};
 ghost use Rattle.rules.specs.Refusals.{refusal};
 
-// A page number and a frame number are different kinds of number (rule N1).
+// A page number, a frame number and a bank number are different kinds of number (rule N1).
 pub struct Page(pub u16);
 
 pub struct Frame(pub u8);
 
-// Limits (rules L1 to L7); each is a number of things, so the largest page number is one less than PAGES.
+pub struct Bank(pub u8);
+
+// Limits (rules L1 to L8); each is a number of things, so the largest page number is one less than PAGES.
 pub const CAPACITIES: usize = 64;
 
 pub const REFERENCES: usize = 4096;
@@ -22,6 +24,10 @@ pub const SLOTS: usize = 64;
 
 pub const HELD: usize = 32;
 
+pub const BANKS: u8 = 4;
+
+pub const BANK_FRAMES: u8 = 16;
+
 pub const POLICIES: u8 = 3;
 
 // Policy numbers (rule L7).
@@ -31,7 +37,7 @@ pub const LFU: u8 = 1;
 
 pub const OPT: u8 = 2;
 
-// Refusal numbers (rules R1 to R27).
+// Refusal numbers (rules R1 to R33).
 pub const BAD_LIMIT: u8 = 1;
 
 pub const TOO_MANY_REFERENCES: u8 = 2;
@@ -69,6 +75,14 @@ pub const ROW_FULL: u8 = 25;
 pub const NOTHING_HELD: u8 = 26;
 
 pub const ALL_BUSY: u8 = 27;
+
+pub const WRONG_BANK_STATE: u8 = 30;
+
+pub const BANK_BUSY: u8 = 31;
+
+pub const BAD_BANK: u8 = 32;
+
+pub const BANK_NOT_OPEN: u8 = 33;
 
 // A refusal has a number and a place (rule A1).
 pub struct Refusal {
