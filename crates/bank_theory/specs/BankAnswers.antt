@@ -9,6 +9,7 @@ use lib.Dec.{eqb}
 use lib.ListN.{getD}
 use borrow.Author.Tests.{eqb-true, eq-eqb}
 use Rattle.rules.specs.Limits.{frames, bankFrames}
+use Rattle.rules.specs.Refusals.{bankBusy}
 use Rattle.rules.specs.Cases.{by-cases}
 use Rattle.rules.specs.declared.Frame.{Frame}
 use Rattle.row_theory.specs.States.{Call, absent, idle, busy, stateOf, refusalOf, accepts}
@@ -18,6 +19,7 @@ use Rattle.row_theory.specs.declared.Reply.{Reply}
 use Rattle.row_theory.specs.declared.Reply.the-variants.{Done}
 use Rattle.row_theory.specs.declared.Victim.{Victim}
 use Rattle.row_theory.specs.declared.Victim.the-variants.{Given}
+use Rattle.bank_theory.specs.declared.Gating.{Gating}
 use Rattle.bank_theory.specs.declared.Gating.the-variants.{Cut}
 use Rattle.bank_theory.specs.Banks.{Step, ofFrame, ofBank, bankOf, inOpen, off, opened, bankState, gatingRefusal, shut}
 use Rattle.bank_theory.specs.Banks.{refusalUnder}
@@ -26,7 +28,7 @@ use Rattle.bank_theory.specs.Gated.{Gated, takes, gatedThen}
 use Rattle.bank_theory.specs.BankRuns.{ReachedUnder}
 use Rattle.bank_theory.specs.BankPromise.{BankMemory, gatesOf, banksIn, gatedWith, gatedIn, ReachedGates, StandsUnder}
 use Rattle.bank_theory.specs.BankPromise.{AnsweredUnder, FreshBanks, Oldest-open}
-use Rattle.bank_theory.specs.BankLaws.{taken, calm-frame}
+use Rattle.bank_theory.specs.BankLaws.{taken, calm-frame, BusyFrame, forbidden}
 use Rattle.bank_theory.specs.UnderBanks.{seenIn, same-seen}
 use Rattle.bank_theory.specs.BankTheorems.{off-empty, busy-kept-under}
 use Rattle.bank_theory.specs.BankPromiseLaws.{number-under, place-under, same-bank-memory}
@@ -95,6 +97,13 @@ unfolding refusalUnder
 cut-found-calm {m} {bank = bank} met frame at isBusy =
     let took = taken (m .row .states) (banksIn (m .gates)) Cut bank (sym (reply-number-under met)) in
     calm-frame (m .row .states) (bank * bankFrames) bankFrames frame (took .calm refl) (omega arith) (omega arith) isBusy
+
+-- R31: and one that was answered with 31 found one
+pub cut-found-busy : {m m′ : BankMemory} {gating : Gating} {bank : ℕ} {reply : Reply} →
+    AnsweredUnder m (ofBank gating bank) reply m′ → replyNumber reply ≡ bankBusy → BusyFrame (m .row .states) bank
+unfolding refusalUnder
+cut-found-busy {m} {gating = gating} {bank = bank} met is =
+    forbidden (m .row .states) (banksIn (m .gates)) gating bank (sym (reply-number-under met) ∙ is)
 
 -- D1: whatever was asked and answered, a busy frame is not absent after it
 pub busy-stays-held : {m m′ : BankMemory} {step : Step} {reply : Reply} → StandsUnder m → AnsweredUnder m step reply m′ →

@@ -11,6 +11,7 @@ use Rattle.rules.specs.Limits
 use Rattle.rules.specs.Refusals.{wrongBankState, bankBusy, badBank}
 use Rattle.rules.specs.Cases.{by-cases, clash}
 use Rattle.row_theory.specs.States.{busy, stateOf}
+use Rattle.row_theory.specs.Counting.{and-right}
 use Rattle.bank_theory.specs.declared.Gating.{Gating}
 use Rattle.bank_theory.specs.Banks.{inBank, bankOf, bankState, gatedTo, isCut, busyFrom, busyIn, gatingRefusal}
 use Rattle.bank_theory.specs.Dropping.{within}
@@ -68,3 +69,37 @@ taken states banks gating bank e =
       allowed = eqb-false next wrongBankState (tests .1);
       calm = λ cut. rw cut at (tests .2);
     }
+
+-- R31, the other way: where the test says so, there is a busy frame in the bank
+pub record BusyFrame (states : List ℕ) (bank : ℕ) : Type 0 where
+  pub frame : ℕ
+  pub at : bankOf frame ≡ bank
+  pub isBusy : stateOf states frame ≡ busy
+
+busy-frame : (states : List ℕ) (bank first many : ℕ) → bank * bankFrames ≤ first → first + many ≤ bank * bankFrames + bankFrames →
+    busyFrom states first many ≡ true → BusyFrame states bank
+unfolding busyFrom
+busy-frame states bank first zero low high some = clash some refl
+busy-frame states bank first (suc many) low high some =
+    by-cases (eqb (stateOf states first) busy)
+    (λ e. record { frame = first; at = omega arith; isBusy = eqb-true (stateOf states first) busy e })
+    (λ e. busy-frame states bank (suc first) many (omega arith) (omega arith) (rw e at some))
+
+busy-there : (states : List ℕ) (bank : ℕ) → busyIn states bank ≡ true → BusyFrame states bank
+busy-there states bank some =
+    busy-frame states bank (bank * bankFrames) bankFrames (omega arith) (omega arith) some
+
+-- so 31 is given only where a frame of the bank is busy
+only-busy : (b₁ b₂ b₃ : Bool) → cond b₁ badBank (cond b₂ wrongBankState (cond b₃ bankBusy 0)) ≡ bankBusy → b₃ ≡ true
+only-busy true b₂ b₃ e = absurd (omega arith)
+only-busy false true b₃ e = absurd (omega arith)
+only-busy false false true e = refl
+only-busy false false false e = absurd (omega arith)
+
+pub forbidden : (states banks : List ℕ) (gating : Gating) (bank : ℕ) → gatingRefusal states banks gating bank ≡ bankBusy →
+    BusyFrame states bank
+unfolding gatingRefusal
+forbidden states banks gating bank e =
+    let next = gatedTo gating (bankState banks bank) in
+    let both = only-busy (leb Limits.banks bank) (eqb next wrongBankState) (isCut gating && busyIn states bank) e in
+    busy-there states bank (and-right (isCut gating) (busyIn states bank) both)
