@@ -15,6 +15,7 @@ use Rattle.kept.specs.Entries.{entry, always, larger}
 use Rattle.kept.specs.Rankings.{shownOf}
 use Rattle.step.specs.declared.Step.{Step}
 use Rattle.step.specs.Stepped.{Stepped}
+use Rattle.run.specs.declared.reference.Ranks.{Ranks}
 use Rattle.run.specs.Referred.{
   rankNow,
   rankNext,
@@ -22,7 +23,11 @@ use Rattle.run.specs.Referred.{
   rankThen,
   countsKept,
   countsThen,
+  countIn,
+  countStored,
+  oneMore,
   depthsThen,
+  Ranking,
   Tallied,
   Ranked,
   Referred,
@@ -36,16 +41,34 @@ kept-is : (policy page near next : ℕ) (counts : List ℕ)
 unfolding countsKept countsThen rankNext rankNow
 kept-is policy page near next counts = by-cases (eqb policy lfu) (λ e. rw e) (λ e. rw e)
 
+-- LFU looks the count up and keeps one more; OPT was told
+pub ranking-counted : {policy page near next count more : ℕ} {counts counts′ : List ℕ} → policy ≡ lfu →
+    count ≡ countIn counts page → more ≡ oneMore count → counts′ ≡ countStored page more counts →
+    Ranking policy page near next counts counts′ (record { now = count; then = more })
+unfolding rankNow rankNext countsKept
+ranking-counted {policy} is count-is more-is kept =
+    let lfu-is = eq-eqb policy lfu is in
+    record { now-is = rw lfu-is count-is; then-is = rw lfu-is more-is; counts-are = rw lfu-is kept }
+
+pub ranking-told : {policy page near next : ℕ} {counts : List ℕ} → (policy ≡ lfu → ⊥) →
+    Ranking policy page near next counts counts (record { now = near; then = next })
+unfolding rankNow rankNext countsKept
+ranking-told {policy} other =
+    let told = ne-eqb policy lfu other in
+    record { now-is = rw told; then-is = rw told; counts-are = rw told }
+
 module _ {policy page near next n k : ℕ} {places depths counts places′ depths′ : List ℕ} {r : Step} where
-  pub ranked : {rank then old new : ℕ} {counts′ : List ℕ} → rank ≡ rankNow policy page near counts
-      → then ≡ rankNext policy rank next → counts′ ≡ countsKept policy page then counts
-      → old ≡ entry (λ p. rank) page → new ≡ entry (λ p. then) page
+  pub ranked : {ranks : Ranks} {old new : ℕ} {counts′ : List ℕ} → Ranking policy page near next counts counts′ ranks
+      → old ≡ entry (λ p. ranks .now) page → new ≡ entry (λ p. ranks .then) page
       → Stepped larger k old new n places places′ r → depths′ ≡ depthsThen (r .depth) depths
       → Ranked policy page near next n k places depths counts places′ depths′ counts′ r
-  ranked rank-is then-is kept old-is new-is s d =
+  ranked looked old-is new-is s d =
       record {
-        tallied = record { stepped = rw (← rank-is, ← then-is) (rw (old-is, new-is) at s); depths-are = d };
-        counts-are = rw (← rank-is, ← then-is) kept;
+        tallied = record {
+          stepped = rw (← looked .now-is, ← looked .then-is) (rw (old-is, new-is) at s);
+          depths-are = d;
+        };
+        counts-are = rw (← looked .now-is, ← looked .then-is) (looked .counts-are);
       }
 
   pub referred-lru : policy ≡ lru

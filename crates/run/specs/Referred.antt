@@ -12,6 +12,7 @@ use Rattle.theory.specs.Priority.{Priority}
 use Rattle.kept.specs.Entries.{entry, larger}
 use Rattle.kept.specs.Rankings.{shownOf}
 use Rattle.step.specs.declared.Step.{Step}
+use Rattle.run.specs.declared.reference.Ranks.{Ranks}
 use Rattle.step.specs.Stepped.{Stepped}
 
 -- the largest rank of 16 bits and the largest count of 32: no accepted run comes near them, and any memory may hold them
@@ -60,6 +61,12 @@ depthsThen d depths = cond (ltb d (suc capacities)) (set depths d (min (getD dep
 pub record Tallied (above : Priority) (k old new n : ℕ) (places depths places′ depths′ : List ℕ) (r : Step) : Type 0 where
   pub stepped : Stepped above k old new n places places′ r
   pub depths-are : depths′ ≡ depthsThen (r .depth) depths
+
+-- what looking up a rank answers, and keeps
+pub record Ranking (policy page near next : ℕ) (counts counts′ : List ℕ) (r : Ranks) : Type 0 where
+  pub now-is : r .now ≡ rankNow policy page near counts
+  pub then-is : r .then ≡ rankNext policy (r .now) next
+  pub counts-are : counts′ ≡ countsKept policy page (r .then) counts
 
 -- under the policies that rank
 pub record Ranked (policy page near next n k : ℕ) (places depths counts places′ depths′ counts′ : List ℕ)

@@ -5,8 +5,8 @@ ghost use Prim.Native.Nat.{_-_};
 ghost use mathlib.Core.Path.{_≡_};
 ghost use lib.ListN.{getD};
 ghost use Rattle.kept.specs.Entries.{entry as «entry-of», always};
-ghost use Rattle.run.specs.Referred.{countIn, countStored, countsKept, oneMore, rankNow, rankNext};
-ghost use Rattle.run.specs.Referred.{Tallied, Ranked, Referred};
+ghost use Rattle.run.specs.Referred.{countIn, countStored, oneMore};
+ghost use Rattle.run.specs.Referred.{Ranking, Tallied, Ranked, Referred};
 ghost use Rattle.run.specs.ReferredAll.{runMemory, ReferredAll};
 use crate::counting::count_depth;
 use kept::DEPTHS;
@@ -31,26 +31,6 @@ fn count_of(counts: &[u16; PAGES as usize], page: u16) -> u16
     0
 }
 
-// LFU ranks by the count; OPT was told.
-fn rank_now(policy: u8, page: u16, near: u16, counts: &[u16; PAGES as usize]) -> u16
-    ensures { λ r. ⌜ r ≡ rankNow policy page near (now (counts .entry)) ⌝ }
-{
-    if policy == LFU {
-        return count_of(counts, page);
-    }
-    near
-}
-
-// The rank of the referenced page from now on.
-fn rank_next(policy: u8, rank: u16, next: u16) -> u16
-    ensures { λ r. ⌜ r ≡ rankNext policy rank next ⌝ }
-{
-    if policy == LFU {
-        return more(rank);
-    }
-    next
-}
-
 // One more, as far as the number goes.
 fn more(count: u16) -> u16
     ensures { λ r. ⌜ r ≡ oneMore count ⌝ }
@@ -70,12 +50,35 @@ fn keep_count(counts: &mut [u16; PAGES as usize], page: u16, count: u16)
     }
 }
 
-// LFU alone keeps what it counts.
-fn keep_rank(policy: u8, counts: &mut [u16; PAGES as usize], page: u16, rank: u16)
-    ensures { λ _. ⌜ now (counts .exit) ≡ countsKept policy page rank (now (counts .entry)) ⌝ }
+// The rank of the referenced page: now, and from this reference on.
+struct Ranks {
+    now: u16,
+    then: u16,
+}
+
+// LFU ranks by the count, and keeps one more; OPT was told both. One test of the policy does for all three: OPT under strong
+// locality took 13.3 ns a reference, and 14.1 with a test for each.
+fn ranks_of(
+    policy: u8,
+    page: u16,
+    near: u16,
+    next: u16,
+    counts: &mut [u16; PAGES as usize],
+) -> Ranks
+    ensures { λ r. ⌜ Ranking policy page near next (now (counts .entry)) (now (counts .exit)) r ⌝ }
 {
     if policy == LFU {
-        keep_count(counts, page, rank);
+        let count = count_of(counts, page);
+        let one_more = more(count);
+        keep_count(counts, page, one_more);
+        return Ranks {
+            now: count,
+            then: one_more,
+        };
+    }
+    Ranks {
+        now: near,
+        then: next,
     }
 }
 
@@ -111,11 +114,9 @@ fn refer_ranked(
         (now (places .entry)) (now (depths .entry)) (now (counts .entry))
         (now (places .exit)) (now (depths .exit)) (now (counts .exit)) r ⌝ }
 {
-    let rank = rank_now(policy, page, near, counts);
-    let then = rank_next(policy, rank, next);
-    keep_rank(policy, counts, page, then);
-    let old = entry(rank, page);
-    let new = entry(then, page);
+    let ranks = ranks_of(policy, page, near, next, counts);
+    let old = entry(ranks.now, page);
+    let new = entry(ranks.then, page);
     let s = place(places, n, k, old, new);
     count_depth(depths, s.depth);
     s
