@@ -3,7 +3,7 @@
 use Prim.Native.Nat.{ℕ, _*_, _<_}
 use native.Mathlib.Omega.{arith}
 use mathlib.Core.Path.{_≡_, refl, sym, _∙_, ap}
-use mathlib.Core.Bool.{true}
+use mathlib.Core.Bool.{true, and-false}
 use mathlib.Core.List.{List, _∷_}
 use lib.Dec.{eqb}
 use lib.ListN.{getD}
@@ -22,9 +22,9 @@ use Rattle.row_theory.specs.declared.Victim.the-variants.{Given}
 use Rattle.bank_theory.specs.declared.Gating.{Gating}
 use Rattle.bank_theory.specs.declared.Gating.the-variants.{Cut}
 use Rattle.bank_theory.specs.Banks.{Step, ofFrame, ofBank, bankOf, inOpen, off, opened, bankState, gatingRefusal, shut}
-use Rattle.bank_theory.specs.Banks.{refusalUnder}
+use Rattle.bank_theory.specs.Banks.{isCut, refusalUnder, banksUnder}
 use Rattle.bank_theory.specs.BankHistory.{Seen, seenAfter}
-use Rattle.bank_theory.specs.Gated.{Gated, takes, gatedThen}
+use Rattle.bank_theory.specs.Gated.{Gated, rowUnder, gatedThen}
 use Rattle.bank_theory.specs.BankRuns.{ReachedUnder}
 use Rattle.bank_theory.specs.BankPromise.{BankMemory, gatesOf, banksIn, gatedWith, gatedIn, ReachedGates, StandsUnder}
 use Rattle.bank_theory.specs.BankPromise.{AnsweredUnder, FreshBanks, Oldest-open}
@@ -43,7 +43,7 @@ refused-call row call some =
 -- A3: a call with a number changes nothing
 refused-then : (gated : Gated) (step : Step) → 0 < refusalUnder (gated .row .states) (gated .banks) step →
     gatedThen gated step ≡ gated
-unfolding gatedThen refusalUnder takes
+unfolding gatedThen rowUnder banksUnder refusalUnder
 refused-then gated (ofFrame call) some =
     by-cases (shut (gated .banks) call)
     (λ e. rw e)
@@ -51,7 +51,7 @@ refused-then gated (ofFrame call) some =
     rw e (λ i. record { row = row i; banks = gated .banks }))
 refused-then gated (ofBank gating bank) some =
     let number = gatingRefusal (gated .row .states) (gated .banks) gating bank in
-    by-cases (eqb number 0) (λ e. absurd (omega (arith, eqb-true number 0 e))) (λ e. rw e)
+    by-cases (eqb number 0) (λ e. absurd (omega (arith, eqb-true number 0 e))) (λ e. rw (e, and-false (isCut gating)))
 
 module _ {m m′ : BankMemory} {step : Step} {reply : Reply} where
   -- A1: the place of a reply is 0

@@ -13,7 +13,9 @@ use Rattle.rules.specs.Cases.{by-cases, clash}
 use Rattle.row_theory.specs.States.{busy, stateOf}
 use Rattle.row_theory.specs.Counting.{and-right}
 use Rattle.bank_theory.specs.declared.Gating.{Gating}
-use Rattle.bank_theory.specs.Banks.{inBank, bankOf, bankState, gatedTo, isCut, busyFrom, busyIn, gatingRefusal}
+use Rattle.bank_theory.specs.declared.Gating.the-variants.{Close, Cut, Open}
+use Rattle.bank_theory.specs.Banks.{off, opened, closing, inBank, bankOf, bankState, gatedTo, isCut}
+use Rattle.bank_theory.specs.Banks.{busyFrom, busyIn, gatingRefusal}
 use Rattle.bank_theory.specs.Dropping.{within}
 
 -- L8: the frames of a bank are so many from its first on
@@ -43,6 +45,16 @@ calm-frame states first (suc many) frame calm low high isBusy =
     (λ e. clash refl (rw e at calm))
     (λ e. let apart : first ≡ frame → ⊥ = λ same. eqb-false (stateOf states first) busy e (rw same isBusy) in
     calm-frame states (suc first) many frame (rw e at calm) (omega arith) (omega arith) isBusy)
+
+-- B2: a bank becomes off by a cut alone, and only if it was closing
+pub only-cut : (gating : Gating) (state : ℕ) → gatedTo gating state ≡ off → (gating ≡ Cut) × (state ≡ closing)
+unfolding gatedTo
+only-cut Close state isOff =
+    by-cases (eqb state opened) (λ e. absurd (omega (arith, rw e at isOff))) (λ e. absurd (omega (arith, rw e at isOff)))
+only-cut Cut state isOff =
+    by-cases (eqb state closing) (λ e. (refl, eqb-true state closing e)) (λ e. absurd (omega (arith, rw e at isOff)))
+only-cut Open state isOff =
+    by-cases (eqb state opened) (λ e. absurd (omega (arith, rw e at isOff))) (λ e. absurd (omega (arith, rw e at isOff)))
 
 -- O8: no test of the order of refusals stands against an accepted bank call
 passed : (b₁ b₂ b₃ : Bool) → cond b₁ badBank (cond b₂ wrongBankState (cond b₃ bankBusy 0)) ≡ 0 →

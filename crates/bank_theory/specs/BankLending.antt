@@ -1,22 +1,15 @@
 -- What the steps of a call under banks ask and leave (docs/RULES.md, B2, B3).
 use Prim.Native.Nat.{ℕ, zero, suc, _+_, _*_, _<_, _≤_}
 use mathlib.Core.Path.{_≡_}
-use mathlib.Core.Bool.{Bool, not, _&&_}
 use mathlib.Core.List.{List}
-use lib.Dec.{ltb, eqb}
 use lib.ListN.{getD}
 use Rattle.rules.specs.Limits.{frames, banks, bankFrames}
-use Rattle.row_theory.specs.States.{Call}
 use Rattle.row_theory.specs.Row.{Row, after}
 use Rattle.row_theory.specs.Promise.{Memory, rowIn, Stands, asked}
 use Rattle.row_theory.specs.declared.Event.the-variants.{Drop}
-use Rattle.bank_theory.specs.Banks.{off, opened, closing, needsOpen, busyFrom}
+use Rattle.bank_theory.specs.Banks.{off, closing, busyFrom}
 use Rattle.bank_theory.specs.BankPromise.{BankMemory, StandsUnder}
 use Rattle.bank_theory.specs.GateLaws.{Stored}
-
--- R33, read off the frame's gate
-unfoldable pub shutBy : List ℕ → Call → Bool
-shutBy gates call = ltb (call .frame) frames && (needsOpen (call .event) && not (eqb (getD gates (call .frame) off) opened))
 
 -- the row after drops of so many frames from a number on
 unfoldable pub dropping : ℕ → ℕ → Row → Row

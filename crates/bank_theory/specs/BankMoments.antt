@@ -11,18 +11,16 @@ use Rattle.rules.specs.Limits.{bankFrames}
 use Rattle.rules.specs.Cases.{by-cases}
 use Rattle.row_theory.specs.States.{Call, accepts, moves}
 use Rattle.row_theory.specs.Row.{replyOf, examinedOf}
-use Rattle.row_theory.specs.History.{statesAfter, movesLast, momentAfter, movesAfter, Victim-of}
+use Rattle.row_theory.specs.History.{statesAfter, movesLast, momentAfter, movesAfter}
 use Rattle.row_theory.specs.Runs.{rowAfter, examinedAfter}
 use Rattle.row_theory.specs.Promise.{asked}
 use Rattle.row_theory.specs.Moments.{moment-bound, moment-kept}
 use Rattle.row_theory.specs.Bound.{examined-rule}
 use Rattle.row_theory.specs.declared.Event.the-variants.{Drop}
-use Rattle.row_theory.specs.declared.Victim.{Victim}
-use Rattle.row_theory.specs.declared.Victim.the-variants.{Given, Refused}
 use Rattle.bank_theory.specs.declared.Gating.{Gating}
-use Rattle.bank_theory.specs.Banks.{Step, ofFrame, ofBank, isCut, gatingRefusal, shut}
+use Rattle.bank_theory.specs.Banks.{Step, ofFrame, ofBank, takes, cuts, shut}
 use Rattle.bank_theory.specs.BankHistory.{Seen, seenAfter, movesNow, momentUnder, movesUnder}
-use Rattle.bank_theory.specs.Gated.{takes, replyUnder}
+use Rattle.bank_theory.specs.Gated.{replyUnder}
 use Rattle.bank_theory.specs.BankRuns.{gatedAfter, examinedUnder, drops, callsOf, rowCalls}
 use Rattle.bank_theory.specs.UnderBanks.{same-seen, under-banks, states-under}
 
@@ -56,12 +54,12 @@ unfolding drops
 drops-still first zero calls = still-same calls
 drops-still first (suc many) calls = drop-still (first + many) (drops-still first many calls)
 
--- a bank call, and a call that finds its bank not open, leave them too
+-- and so does a bank call
 bank-still : (seen : Seen) (gating : Gating) (bank : ℕ) (calls : List Call) →
     Still calls (callsOf seen (ofBank gating bank) ++ calls)
 unfolding callsOf
 bank-still seen gating bank calls =
-    by-cases (isCut gating && eqb (gatingRefusal (seen .states) (seen .banks) gating bank) 0)
+    by-cases (cuts (seen .states) (seen .banks) gating bank)
     (λ e. rw e (drops-still (bank * bankFrames) bankFrames calls))
     (λ e. rw e (still-same calls))
 
@@ -98,7 +96,8 @@ examined-same (ofFrame call ∷ history) =
     (λ e. rw (banks, e, under-banks history) (omega (arith, examined-same history)))
 examined-same (ofBank gating bank ∷ history) =
     bank-still (seenAfter history) gating bank (rowCalls history) .seen ∙ examined-same history ∙
-    by-cases (takes (gatedAfter history) gating bank) (λ e. rw e (omega arith)) (λ e. rw e (omega arith))
+    by-cases (takes (gatedAfter history .row .states) (gatedAfter history .banks) gating bank) (λ e. rw e (omega arith))
+    (λ e. rw e (omega arith))
 
 -- no moment is later than now
 moment-bound-under : (history : List Step) (frame : ℕ) → momentUnder history frame ≤ length history
@@ -135,17 +134,3 @@ later-same (ofFrame call ∷ history) frame other less =
 later-same (ofBank gating bank ∷ history) frame other less =
     let still = bank-still (seenAfter history) gating bank (rowCalls history) in
     later-same history frame other (omega (arith, still .moment frame, still .moment other))
-
--- W7, B4: an answer about the frames that may go and their moments is one about frames that may go alike, whose moments are
--- in the same order
-pub victim-alike : {goes also : ℕ → Type 0} {moment and : ℕ → ℕ} (states : List ℕ) (victim : Victim) →
-    ((frame : ℕ) → goes frame → also frame) → ((frame : ℕ) → also frame → goes frame) →
-    ((frame other : ℕ) → moment frame < moment other → and frame < and other) → Victim-of goes moment states victim →
-    Victim-of also and states victim
-victim-alike states (Given frame) to from later says =
-    record {
-      mayGo = to (frame .0) (says .mayGo);
-      earliest = λ other apart go. later (frame .0) other (says .earliest other apart (from other go));
-    }
-victim-alike states (Refused refusal) to from later says =
-    record { none = λ frame go. says .none frame (from frame go); number = says .number; place = says .place }

@@ -13,9 +13,9 @@ use Rattle.row_theory.specs.PromiseLaws.{number-of-reply, place-of-reply, same-
 use Rattle.row_theory.specs.declared.Reply.{Reply}
 use Rattle.row_theory.specs.declared.Victim.{Victim}
 use Rattle.bank_theory.specs.Banks.{Step, ofFrame, ofBank, gatingRefusal, shut}
-use Rattle.bank_theory.specs.Banks.{refusalUnder}
+use Rattle.bank_theory.specs.Banks.{takes, refusalUnder}
 use Rattle.bank_theory.specs.BankHistory.{Seen, seenAfter}
-use Rattle.bank_theory.specs.Gated.{Gated, takes, gatedThen, replyUnder, victimUnder}
+use Rattle.bank_theory.specs.Gated.{Gated, gatedThen, replyUnder, victimUnder}
 use Rattle.bank_theory.specs.BankRuns.{gatedAfter, ReachedUnder, rowCalls}
 use Rattle.bank_theory.specs.BankPromise.{BankMemory, gatesOf, banksIn, gatedIn, StandsUnder}
 use Rattle.bank_theory.specs.BankPromise.{Reply-says-under, AnsweredUnder, Oldest-open}
@@ -25,7 +25,7 @@ use Rattle.bank_theory.specs.BankTheorems.{victim-under-says}
 -- O7, O8, A1: the number and the place of what a call answers
 pub number-under : (gated : Gated) (step : Step) →
     replyNumber (replyUnder gated step) ≡ refusalUnder (gated .row .states) (gated .banks) step
-unfolding replyUnder refusalUnder takes
+unfolding replyUnder refusalUnder
 number-under gated (ofFrame call) =
     by-cases (shut (gated .banks) call) (λ e. rw e) (λ e. rw e (number-of-reply (gated .row) call))
 number-under gated (ofBank gating bank) =
@@ -36,7 +36,8 @@ pub place-under : (gated : Gated) (step : Step) → replyPlace (replyUnder gated
 unfolding replyUnder
 place-under gated (ofFrame call) =
     by-cases (shut (gated .banks) call) (λ e. rw e) (λ e. rw e (place-of-reply (gated .row) call))
-place-under gated (ofBank gating bank) = by-cases (takes gated gating bank) (λ e. rw e) (λ e. rw e)
+place-under gated (ofBank gating bank) =
+    by-cases (takes (gated .row .states) (gated .banks) gating bank) (λ e. rw e) (λ e. rw e)
 
 -- what it says of any history that gives the state
 reply-says-under : (history : List Step) (gated : Gated) (step : Step) → gatedAfter history ≡ gated →

@@ -2,9 +2,8 @@
 -- row alone would have been given.
 use Prim.Native.Nat.{ℕ, zero, suc, _+_, _*_}
 use mathlib.Core.Path.{_≡_}
-use mathlib.Core.Bool.{cond, _&&_}
+use mathlib.Core.Bool.{cond}
 use mathlib.Core.List.{List, [], _∷_, _++_}
-use lib.Dec.{eqb}
 use Rattle.rules.specs.Limits.{bankFrames}
 use Rattle.row_theory.specs.States.{Call}
 use Rattle.row_theory.specs.Row.{examinedOf}
@@ -14,10 +13,10 @@ use Rattle.row_theory.specs.declared.Event.the-variants.{Drop}
 use Rattle.row_theory.specs.declared.Reply.{Reply}
 use Rattle.row_theory.specs.declared.Victim.{Victim}
 use Rattle.rules.specs.Lists.{valuesFrom}
-use Rattle.bank_theory.specs.Banks.{Step, ofFrame, ofBank, inBank, inOpen, gatedTo, isCut, busyFrom, gatingRefusal, shut}
-use Rattle.bank_theory.specs.Banks.{statesWithout}
+use Rattle.bank_theory.specs.Banks.{Step, ofFrame, ofBank, inBank, inOpen, gatedTo, busyFrom, gatingRefusal, cuts}
+use Rattle.bank_theory.specs.Banks.{shutOut, shut, statesWithout, banksUnder}
 use Rattle.bank_theory.specs.BankHistory.{Seen, seenAfter}
-use Rattle.bank_theory.specs.Gated.{Gated, freshGated, slotsWithout, rowWithout, takes, switched, gatedThen, replyUnder}
+use Rattle.bank_theory.specs.Gated.{Gated, freshGated, slotsWithout, rowWithout, rowUnder, gatedThen, replyUnder}
 use Rattle.bank_theory.specs.Gated.{victimUnder}
 
 -- the row and the banks that fresh ones and these calls give
@@ -45,8 +44,7 @@ drops frame (suc more) = asked Drop (frame + more) ∷ drops frame more
 unfoldable pub callsOf : Seen → Step → List Call
 callsOf seen (ofFrame call) = cond (shut (seen .banks) call) [] (call ∷ [])
 callsOf seen (ofBank gating bank) =
-    cond (isCut gating && eqb (gatingRefusal (seen .states) (seen .banks) gating bank) 0)
-    (drops (bank * bankFrames) bankFrames) []
+    cond (cuts (seen .states) (seen .banks) gating bank) (drops (bank * bankFrames) bankFrames) []
 
 unfoldable pub rowCalls : List Step → List Call
 rowCalls [] = []
@@ -64,8 +62,8 @@ repliesFrom gated (step ∷ steps) = replyUnder gated step ∷ repliesFrom (gate
 -- P13, P14: what fresh banks answer to these calls, and the victim after them. Whoever unfolds one of the two unfolds all
 -- that it computes by
 unfoldable pub repliesOf : List Step → List Reply
-unfolding answersOf valuesFrom inBank inOpen gatedTo busyFrom gatingRefusal shut statesWithout freshGated slotsWithout rowWithout
-    takes switched gatedThen replyUnder repliesFrom
+unfolding answersOf valuesFrom inBank inOpen gatedTo busyFrom gatingRefusal shutOut statesWithout banksUnder freshGated
+    slotsWithout rowWithout rowUnder gatedThen replyUnder repliesFrom
 repliesOf steps = repliesFrom freshGated steps
 
 unfoldable pub victimAfterSteps : List Step → Victim

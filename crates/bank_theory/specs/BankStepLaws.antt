@@ -13,32 +13,33 @@ use Rattle.rules.specs.Limits.{frames, bankFrames}
 use Rattle.rules.specs.Limits
 use Rattle.rules.specs.Cases.{by-cases}
 use Rattle.row_theory.specs.States.{absent, idle, busy, stateOf, tableAt, verdictOf, accepts}
-use Rattle.row_theory.specs.Row.{Row, after}
+use Rattle.row_theory.specs.Row.{Row, after, hasMark}
 use Rattle.row_theory.specs.Promise.{Memory, rowIn, Stands, asked, Answered}
 use Rattle.row_theory.specs.PromiseLaws.{ordered}
 use Rattle.row_theory.specs.SoundRow.{after-refused}
 use Rattle.row_theory.specs.declared.Event.{Event}
 use Rattle.row_theory.specs.declared.Event.the-variants.{Drop}
 use Rattle.row_theory.specs.declared.Reply.{Reply}
-use Rattle.bank_theory.specs.Banks.{off, opened, needsOpen, busyFrom}
+use Rattle.bank_theory.specs.Banks.{off, opened, needsOpen, busyFrom, shutOut}
 use Rattle.bank_theory.specs.Dropping.{within, within-none, within-more}
 use Rattle.bank_theory.specs.GateLaws.{Stored}
-use Rattle.bank_theory.specs.BankLending.{shutBy, dropping, DroppedOne, Dropped, CalmTo, DroppedTo, StoredTo}
+use Rattle.bank_theory.specs.BankLending.{dropping, DroppedOne, Dropped, CalmTo, DroppedTo, StoredTo}
 
 -- R33: a number that is no frame's, a frame whose gate is open, and one whose gate is not
-pub shut-past : (gates : List ℕ) (event : Event) (frame : ℕ) → frames ≤ frame → shutBy gates (asked event frame) ≡ false
-unfolding shutBy
+pub shut-past : (gates : List ℕ) (event : Event) (frame : ℕ) → frames ≤ frame →
+    shutOut (hasMark gates) (asked event frame) ≡ false
+unfolding shutOut
 shut-past gates event frame past = rw (le-ltb frame frames past)
 
 pub shut-opened : (gates : List ℕ) (event : Event) (frame : ℕ) → getD gates frame off ≡ opened →
-    shutBy gates (asked event frame) ≡ false
-unfolding shutBy
+    shutOut (hasMark gates) (asked event frame) ≡ false
+unfolding shutOut hasMark
 shut-opened gates event frame isOpen =
     rw (isOpen, and-false (needsOpen event)) (and-false (ltb frame frames))
 
 pub shut-decided : (gates : List ℕ) (event : Event) (frame : ℕ) → frame < frames → (getD gates frame off ≡ opened → ⊥) →
-    shutBy gates (asked event frame) ≡ needsOpen event
-unfolding shutBy
+    shutOut (hasMark gates) (asked event frame) ≡ needsOpen event
+unfolding shutOut hasMark
 shut-decided gates event frame small other =
     rw (lt-ltb frame frames small, ne-eqb (getD gates frame off) opened other) (and-true (needsOpen event))
 

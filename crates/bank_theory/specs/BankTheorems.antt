@@ -14,6 +14,7 @@ use Rattle.row_theory.specs.Row.{Row, victimAmong}
 use Rattle.row_theory.specs.History.{statesAfter, Victim-is}
 use Rattle.row_theory.specs.Runs.{rowAfter}
 use Rattle.row_theory.specs.GoodStates.{busy-held}
+use Rattle.row_theory.specs.VictimLaws.{victim-alike}
 use Rattle.row_theory.specs.Theorems.{victim-says, examined-bound}
 use Rattle.row_theory.specs.declared.Victim.the-variants.{Given}
 use Rattle.bank_theory.specs.declared.Gating.{Gating}
@@ -26,7 +27,7 @@ use Rattle.bank_theory.specs.BankRuns.{gatedAfter, examinedUnder, rowCal
 use Rattle.bank_theory.specs.Leaving.{state-without}
 use Rattle.bank_theory.specs.BankLaws.{taken, calm-frame}
 use Rattle.bank_theory.specs.UnderBanks.{same-seen, under-banks, states-under}
-use Rattle.bank_theory.specs.BankMoments.{moves-same, examined-same, later-same, victim-alike}
+use Rattle.bank_theory.specs.BankMoments.{moves-same, examined-same, later-same}
 use Rattle.bank_theory.specs.Powered.{good-under, powered-after}
 
 -- L8, R30 to R33: the rules' own numbers

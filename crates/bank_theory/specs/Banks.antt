@@ -77,6 +77,13 @@ gatingRefusal states banks gating bank =
     (cond (eqb (gatedTo gating (bankState banks bank)) wrongBankState) wrongBankState
     (cond (isCut gating && busyIn states bank) bankBusy 0))
 
+-- is a bank call accepted, and is it an accepted cut?
+abbrev pub takes : List ℕ → List ℕ → Gating → ℕ → Bool
+takes states banks gating bank = eqb (gatingRefusal states banks gating bank) 0
+
+abbrev pub cuts : List ℕ → List ℕ → Gating → ℕ → Bool
+cuts states banks gating bank = isCut gating && takes states banks gating bank
+
 -- B3: put and start bring new content into a frame; they need its bank open
 abbrev pub needsOpen : Event → Bool
 needsOpen Put = true
@@ -85,9 +92,13 @@ needsOpen Start = true
 needsOpen End = false
 needsOpen Drop = false
 
--- R33: is this such a call of a frame in a bank that is not open? A number that is no frame's is the row's to refuse
-unfoldable pub shut : List ℕ → Call → Bool
-shut banks call = ltb (call .frame) frames && (needsOpen (call .event) && not (inOpen banks (call .frame)))
+-- R33: is this such a call of a frame that is not among the open ones? A number that is no frame's is the row's to refuse
+unfoldable pub shutOut : (ℕ → Bool) → Call → Bool
+shutOut opens call = ltb (call .frame) frames && (needsOpen (call .event) && not (opens (call .frame)))
+
+-- R33: and so of a frame in a bank that is not open
+abbrev pub shut : List ℕ → Call → Bool
+shut banks call = shutOut (inOpen banks) call
 
 -- O7: 20, then 33, then what the row refuses; 0 stands for "no refusal"
 unfoldable pub refusalUnder : List ℕ → List ℕ → Step → ℕ
@@ -102,9 +113,9 @@ statesWithout leaves states = valuesFrom (λ frame. cond (leaves frame) absent (
 unfoldable pub statesUnder : List ℕ → List ℕ → Step → List ℕ
 statesUnder states banks (ofFrame call) = cond (shut banks call) states (statesThen states call)
 statesUnder states banks (ofBank gating bank) =
-    cond (isCut gating && eqb (gatingRefusal states banks gating bank) 0) (statesWithout (inBank bank) states) states
+    cond (cuts states banks gating bank) (statesWithout (inBank bank) states) states
 
 unfoldable pub banksUnder : List ℕ → List ℕ → Step → List ℕ
 banksUnder states banks (ofFrame call) = banks
 banksUnder states banks (ofBank gating bank) =
-    cond (eqb (gatingRefusal states banks gating bank) 0) (set banks bank (gatedTo gating (bankState banks bank))) banks
+    cond (takes states banks gating bank) (set banks bank (gatedTo gating (bankState banks bank))) banks

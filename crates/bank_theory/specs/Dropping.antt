@@ -2,7 +2,7 @@
 -- if none of them is busy.
 use Prim.Native.Nat.{ℕ, zero, suc, _+_, _<_, _≤_}
 use native.Mathlib.Omega.{arith}
-use mathlib.Core.Path.{_≡_, refl, sym, _∙_, ap}
+use mathlib.Core.Path.{_≡_, sym, _∙_, ap}
 use mathlib.Core.Bool.{Bool, true, false, _&&_, _||_}
 use mathlib.Core.List.{List, _∷_, _++_}
 use lib.Dec.{leb, ltb, eqb}
@@ -24,7 +24,7 @@ use Rattle.row_theory.specs.Theorems.{slots-hold}
 use Rattle.row_theory.specs.declared.Event.the-variants.{Drop}
 use Rattle.bank_theory.specs.Gated.{rowWithout}
 use Rattle.bank_theory.specs.BankRuns.{drops}
-use Rattle.bank_theory.specs.Leaving.{is, state-without, without-same, without-twice, slots-untouched, emptied-once}
+use Rattle.bank_theory.specs.Leaving.{only, state-without, without-same, without-twice, slots-untouched, emptied-once}
 use Rattle.bank_theory.specs.Leaving.{state-gone, states-untouched}
 
 -- a drop of an idle frame is accepted, and one of an absent frame is refused
@@ -65,7 +65,7 @@ module _ (history : List Call) where
 
   -- a drop is its frame leaving
   drop-leaves : (frame : ℕ) → frame < frames → stateOf (row .states) frame ≤ idle →
-      rowAfter (asked Drop frame ∷ history) ≡ rowWithout (is frame) row
+      rowAfter (asked Drop frame ∷ history) ≡ rowWithout (only frame) row
   unfolding rowAfter rowWithout moved slotsThen vacated frontThen statesThen accepts
   drop-leaves frame small low =
       by-cases (eqb (stateOf (row .states) frame) idle)
@@ -80,7 +80,7 @@ module _ (history : List Call) where
       omega (arith, eqb-false (stateOf (row .states) frame) idle e) in
       let verdict = drop-absent (row .states) frame small gone in
       after-refused row (asked Drop frame) (rw verdict) ∙
-      sym (absent-leaves (is frame)
+      sym (absent-leaves (only frame)
       (λ other t. rw (eqb-true other frame t) small)
       (λ other t. rw (eqb-true other frame t) gone)))
 
@@ -93,10 +93,7 @@ unfolding within
 within-none first frame =
     by-cases (leb first frame) (λ e. rw (e, le-ltb frame (first + 0) (omega (arith, leb-true first frame e)))) (λ e. rw e)
 
-by-lt : (frame bound first many : ℕ) → bound ≤ frame → (frame ≡ bound → ⊥) → bound ≡ first + many → first + suc many ≤ frame
-by-lt frame bound first many big other is = omega arith
-
-pub within-more : (first many frame : ℕ) → within first (suc many) frame ≡ (within first many frame || is (first + many) frame)
+pub within-more : (first many frame : ℕ) → within first (suc many) frame ≡ (within first many frame || only (first + many) frame)
 unfolding within
 within-more first many frame =
     by-cases (eqb frame (first + many))
@@ -107,14 +104,13 @@ within-more first many frame =
       lt-ltb frame (first + suc many) (omega arith),
       le-ltb frame (first + many) (omega arith),
     ))
-    (λ e. let other = eqb-false frame (first + many) e in
+    (λ e. let other : frame ≡ first + many → ⊥ = eqb-false frame (first + many) e in
     by-cases (ltb frame (first + many))
     (λ t. let small = ltb-true frame (first + many) t in
     rw (e, t, lt-ltb frame (first + suc many) (omega arith))
     (by-cases (leb first frame) (λ u. rw u) (λ u. rw u)))
     (λ t. let big = ltb-false frame (first + many) t in
-    let past : first + suc many ≤ frame = by-lt frame (first + many) first many big other refl in
-    rw (e, t, le-ltb frame (first + suc many) past)
+    rw (e, t, le-ltb frame (first + suc many) (omega arith))
     (by-cases (leb first frame) (λ u. rw u) (λ u. rw u))))
 
 -- a frame outside the range has the state that it had
@@ -145,7 +141,7 @@ drops-leave first (suc many) history room calm =
     let still : stateOf (rowAfter before .states) last ≡ stateOf (row .states) last =
     still-there first many history last small (omega arith) earlier in
     drop-leaves before last small (omega (arith, calm last (omega arith) (omega arith))) ∙
-    ap (rowWithout (is last)) earlier ∙
-    without-twice (within first many) (is last) row ∙
-    without-same (λ frame. within first many frame || is last frame) (within first (suc many)) row
+    ap (rowWithout (only last)) earlier ∙
+    without-twice (within first many) (only last) row ∙
+    without-same (λ frame. within first many frame || only last frame) (within first (suc many)) row
     (λ frame. sym (within-more first many frame))

@@ -2,11 +2,11 @@
 use Prim.Native.Nat.{ℕ, zero, suc, _+_, _*_, _<_, _≤_}
 use native.Mathlib.Omega.{arith}
 use mathlib.Core.Path.{_≡_, refl, sym, _∙_, ap}
-use mathlib.Core.Bool.{true, false, cond}
+use mathlib.Core.Bool.{true, false, cond, and-false, and-true}
 use mathlib.Core.List.{List, _++_}
 use lib.Dec.{eqb}
 use lib.ListN.{getD, set, length-set}
-use borrow.Author.Tests.{eq-eqb, ne-eqb, eqb-true, le-leb, lt-leb}
+use borrow.Author.Tests.{eq-eqb, ne-eqb, le-leb, lt-leb}
 use Rattle.rules.specs.Limits.{bankFrames}
 use Rattle.rules.specs.Limits
 use Rattle.rules.specs.Refusals.{wrongBankState, bankBusy, badBank}
@@ -20,14 +20,14 @@ use Rattle.row_theory.specs.declared.Event.the-variants.{Drop}
 use Rattle.row_theory.specs.declared.Reply.the-variants.{Done}
 use Rattle.bank_theory.specs.declared.Gating.{Gating}
 use Rattle.bank_theory.specs.declared.Gating.the-variants.{Close, Cut, Open}
-use Rattle.bank_theory.specs.Banks.{ofBank, inBank, off, opened, closing, bankState}
+use Rattle.bank_theory.specs.Banks.{ofBank, inBank, off, opened, closing, bankState, banksUnder}
 use Rattle.bank_theory.specs.Banks.{gatedTo, isCut, busyFrom, gatingRefusal}
-use Rattle.bank_theory.specs.Gated.{rowWithout, takes, switched, gatedThen, refusedReply, replyUnder}
+use Rattle.bank_theory.specs.Gated.{rowWithout, gatedThen, refusedReply, replyUnder, rowUnder}
 use Rattle.bank_theory.specs.BankRuns.{drops}
 use Rattle.bank_theory.specs.BankPromise.{BankMemory, bankMemory, gatesOf, banksIn}
 use Rattle.bank_theory.specs.BankPromise.{StandsUnder, AnsweredUnder}
 use Rattle.bank_theory.specs.UnderBanks.{cut-drops}
-use Rattle.bank_theory.specs.Powered.{only-cuts}
+use Rattle.bank_theory.specs.BankLaws.{only-cut}
 use Rattle.bank_theory.specs.BankPromiseLaws.{answered-under, row-reached}
 use Rattle.bank_theory.specs.GateLaws.{bank-is, banks-long, banks-of-gates, Stored, stored-gates}
 use Rattle.bank_theory.specs.BankLending.{dropping, Dropped, Closing}
@@ -39,10 +39,10 @@ numberIn m gating bank = gatingRefusal (m .row .states) (banksIn (m .gates)) gat
 -- A3: a refused bank call leaves the memory as it was
 gate-refused : {m : BankMemory} {gating : Gating} {bank number : ℕ} → StandsUnder m → numberIn m gating bank ≡ number →
     0 < number → AnsweredUnder m (ofBank gating bank) (refusedReply number) m
-unfolding replyUnder gatedThen takes
+unfolding replyUnder gatedThen rowUnder banksUnder
 gate-refused {m} {gating} {bank} {number} stands is some =
     let other : eqb (numberIn m gating bank) 0 ≡ false = ne-eqb (numberIn m gating bank) 0 (λ none. omega arith) in
-    answered-under stands (rw (other, is)) (rw other) (stands .index) (stands .gated .spread)
+    answered-under stands (rw (other, is)) (rw (other, and-false (isCut gating))) (stands .index) (stands .gated .spread)
 
 pub gate-bad-bank : {m : BankMemory} {gating : Gating} {bank : ℕ} → StandsUnder m → Limits.banks ≤ bank →
     AnsweredUnder m (ofBank gating bank) (refusedReply badBank) m
@@ -91,12 +91,13 @@ gate-done : {m : BankMemory} {gating : Gating} {bank state : ℕ} {row′ : Memo
     rowIn row′ ≡ cond (isCut gating) (rowWithout (inBank bank) (rowIn (m .row))) (rowIn (m .row)) →
     row′ .places ≡ placesIn (row′ .slots) → Stored (m .gates) (bank * bankFrames) bankFrames state gates′ →
     AnsweredUnder m (ofBank gating bank) (Done 0) (bankMemory row′ gates′)
-unfolding replyUnder gatedThen takes switched
+unfolding replyUnder gatedThen rowUnder banksUnder
 gate-done {m} {gating} {bank} {state} stands small none next row index stored =
     let ok : eqb (numberIn m gating bank) 0 ≡ true = eq-eqb (numberIn m gating bank) 0 none in
     let after = stored-banks (stands .gated .spread) small stored in
     let banks = after .banks in
-    answered-under stands (rw ok) (rw (ok, next) (λ i. record { row = row i; banks = banks i })) index (after .spread)
+    answered-under stands (rw ok)
+    (rw (ok, and-true (isCut gating), next) (λ i. record { row = row i; banks = banks i })) index (after .spread)
 
 -- B2: a bank that is closed or opened; its frames stay
 kept-not-cut : (gating : Gating) (state : ℕ) → gatedTo gating state ≤ closing → (gatedTo gating state ≡ off → ⊥) →
@@ -119,14 +120,7 @@ gate-kept {m} {gating} {bank} {next} stands small is low other stored =
     ne-eqb (gatedTo gating (bankState (banksIn (m .gates)) bank)) wrongBankState (λ wrong. omega arith) in
     gate-done stands small (rw (lt-leb Limits.banks bank small, right, kept)) same (rw kept) (stands .index) stored
 
--- B2: a cut; only a cut makes a bank off
-only-cut : (gating : Gating) (state : ℕ) → gatedTo gating state ≡ off → (gating ≡ Cut) × (state ≡ closing)
-unfolding gatedTo
-only-cut Close state isOff = absurd (only-cuts Close state refl isOff)
-only-cut Open state isOff = absurd (only-cuts Open state refl isOff)
-only-cut Cut state isOff =
-    by-cases (eqb state closing) (λ e. (refl, eqb-true state closing e)) (λ e. absurd (omega (arith, rw e at isOff)))
-
+-- B2: a cut
 pub cut-asked : {m : BankMemory} {gating : Gating} {bank next : ℕ} → StandsUnder m → bank < Limits.banks →
     next ≡ gatedTo gating (getD (m .gates) (bank * bankFrames) off) → next ≡ off → (gating ≡ Cut) × Closing m bank
 cut-asked {m} {gating} {bank} stands small is isOff =

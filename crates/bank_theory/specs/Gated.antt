@@ -2,8 +2,6 @@
 use Prim.Native.Nat.{ℕ}
 use mathlib.Core.Bool.{Bool, cond}
 use mathlib.Core.List.{List, map}
-use lib.Dec.{eqb}
-use lib.ListN.{set}
 use Rattle.rules.specs.Refusals.{bankNotOpen}
 use Rattle.row_theory.specs.States.{heldIn}
 use Rattle.row_theory.specs.Slots.{empty}
@@ -11,9 +9,8 @@ use Rattle.row_theory.specs.Row.{Row, emptyRow, after, replyOf, victimAmong}
 use Rattle.row_theory.specs.declared.Reply.{Reply}
 use Rattle.row_theory.specs.declared.Reply.the-variants.{Done, Refused}
 use Rattle.row_theory.specs.declared.Victim.{Victim}
-use Rattle.bank_theory.specs.declared.Gating.{Gating}
-use Rattle.bank_theory.specs.Banks.{Step, ofFrame, ofBank, inBank, inOpen, bankState, freshBanks, gatedTo, isCut}
-use Rattle.bank_theory.specs.Banks.{gatingRefusal, shut, statesWithout}
+use Rattle.bank_theory.specs.Banks.{Step, ofFrame, ofBank, inBank, inOpen, freshBanks, gatingRefusal, takes, cuts}
+use Rattle.bank_theory.specs.Banks.{shut, statesWithout, banksUnder}
 
 -- the whole state: the row, and the states of all banks
 pub record Gated : Type 0 where
@@ -38,23 +35,15 @@ rowWithout leaves row =
       held = heldIn (statesWithout leaves (row .states));
     }
 
--- is a bank call accepted?
-unfoldable pub takes : Gated → Gating → ℕ → Bool
-takes gated gating bank = eqb (gatingRefusal (gated .row .states) (gated .banks) gating bank) 0
+-- B2, B3: what any call makes of the row: a call that finds its bank not open leaves it, and a cut takes its bank's frames out
+unfoldable pub rowUnder : Gated → Step → Row
+rowUnder gated (ofFrame call) = cond (shut (gated .banks) call) (gated .row) (after (gated .row) call)
+rowUnder gated (ofBank gating bank) =
+    cond (cuts (gated .row .states) (gated .banks) gating bank) (rowWithout (inBank bank) (gated .row)) (gated .row)
 
--- B2: what an accepted bank call makes of the state: after a cut the bank's frames are out of the row
-unfoldable pub switched : Gated → Gating → ℕ → Gated
-switched gated gating bank =
-    record {
-      row = cond (isCut gating) (rowWithout (inBank bank) (gated .row)) (gated .row);
-      banks = set (gated .banks) bank (gatedTo gating (bankState (gated .banks) bank));
-    }
-
--- A3, B3: what any call makes of it; a refusal leaves it as it was
+-- A3: and of the whole state; a refusal leaves it as it was
 unfoldable pub gatedThen : Gated → Step → Gated
-gatedThen gated (ofFrame call) =
-    record { row = cond (shut (gated .banks) call) (gated .row) (after (gated .row) call); banks = gated .banks }
-gatedThen gated (ofBank gating bank) = cond (takes gated gating bank) (switched gated gating bank) gated
+gatedThen gated step = record { row = rowUnder gated step; banks = banksUnder (gated .row .states) (gated .banks) step }
 
 -- A1: a refusal has place 0
 abbrev pub refusedReply : ℕ → Reply
@@ -64,7 +53,8 @@ refusedReply number = Refused (record { number = number; place = 0 })
 unfoldable pub replyUnder : Gated → Step → Reply
 replyUnder gated (ofFrame call) = cond (shut (gated .banks) call) (refusedReply bankNotOpen) (replyOf (gated .row) call)
 replyUnder gated (ofBank gating bank) =
-    cond (takes gated gating bank) (Done 0) (refusedReply (gatingRefusal (gated .row .states) (gated .banks) gating bank))
+    cond (takes (gated .row .states) (gated .banks) gating bank) (Done 0)
+    (refusedReply (gatingRefusal (gated .row .states) (gated .banks) gating bank))
 
 -- B4: the oldest idle frame in an open bank
 abbrev pub victimUnder : Gated → Victim

@@ -90,15 +90,15 @@ slots-untouched leaves (x ∷ slots) none =
     (λ other. rw other at (none frame t))))))
 
 -- this frame alone
-abbrev pub is : ℕ → ℕ → Bool
-is frame x = eqb x frame
+abbrev pub only : ℕ → ℕ → Bool
+only frame x = eqb x frame
 
-pub emptied-once : (frame : ℕ) (slots : List ℕ) → times frame slots ≤ 1 → emptied frame slots ≡ slotsWithout (is frame) slots
+pub emptied-once : (frame : ℕ) (slots : List ℕ) → times frame slots ≤ 1 → emptied frame slots ≡ slotsWithout (only frame) slots
 unfolding emptied slotsWithout times
 emptied-once frame [] once = refl
 emptied-once frame (x ∷ slots) once =
     by-cases (eqb x frame)
-    (λ e. rw e (ap (λ (l : List ℕ). empty ∷ l) (sym (slots-untouched (is frame) slots
+    (λ e. rw e (ap (λ (l : List ℕ). empty ∷ l) (sym (slots-untouched (only frame) slots
     (λ other t. let same : other ≡ frame = eqb-true other frame t in
     let more : suc (times frame slots) ≤ 1 = rw e at once in
     rw same (omega arith))))))
@@ -106,11 +106,11 @@ emptied-once frame (x ∷ slots) once =
 
 -- one state stored is one frame gone
 pub state-gone : (states : List ℕ) (frame : ℕ) → length states ≡ frames → frame < frames →
-    set states frame absent ≡ statesWithout (is frame) states
+    set states frame absent ≡ statesWithout (only frame) states
 state-gone states frame long small =
-    same-states (set states frame absent) (statesWithout (is frame) states) (length-set states frame absent ∙ long)
-    (length-without-states (is frame) states)
-    (λ other inside. rw (state-without (is frame) states other inside)
+    same-states (set states frame absent) (statesWithout (only frame) states) (length-set states frame absent ∙ long)
+    (length-without-states (only frame) states)
+    (λ other inside. rw (state-without (only frame) states other inside)
     (by-cases (eqb other frame)
     (λ e. rw (e, eqb-true other frame e) (getD-set-same states frame absent absent (omega arith)))
     (λ e. rw e (getD-set-other states frame other absent absent (eqb-false other frame e)))))

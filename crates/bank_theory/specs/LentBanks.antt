@@ -16,3 +16,7 @@ module _ (slots places states : Changed (List ℕ)) (front held : Changed ℕ) (
 
   abbrev pub banksAtExit : BankMemory
   banksAtExit = bankMemory (rowAtExit slots places states front held) (gates .exit .now)
+
+  -- after a call that only reads the gates
+  abbrev pub banksKept : BankMemory
+  banksKept = bankMemory (rowAtExit slots places states front held) (gates .entry .now)

@@ -4,7 +4,7 @@ use Prim.Native.Nat.{ℕ, zero, suc, _<_}
 use native.Mathlib.Nat.{not-suc-le-zero, le-of-suc-le-suc}
 use native.Mathlib.Omega.{arith}
 use mathlib.Core.Path.{_≡_, refl, sym, _∙_, ap, subst}
-use mathlib.Core.Bool.{true, false, cond}
+use mathlib.Core.Bool.{true, false, cond, and-true, and-false}
 use mathlib.Core.List.{List, [], _∷_}
 use lib.Dec.{eqb}
 use lib.ListN.{length, getD, set, replicate, length-set}
@@ -19,14 +19,13 @@ use Rattle.row_theory.specs.GoodStates.{GoodStates, good-after, states-refused,
 use Rattle.row_theory.specs.declared.Event.{Event}
 use Rattle.row_theory.specs.declared.Event.the-variants.{Put, Touch, Start, End, Drop}
 use Rattle.bank_theory.specs.declared.Gating.{Gating}
-use Rattle.bank_theory.specs.declared.Gating.the-variants.{Close, Cut, Open}
 use Rattle.bank_theory.specs.Banks.{Step, ofFrame, ofBank, bankOf, inBank, inOpen, off, opened, bankState, gatedTo}
-use Rattle.bank_theory.specs.Banks.{isCut, gatingRefusal, needsOpen, shut, statesWithout, statesUnder, banksUnder}
+use Rattle.bank_theory.specs.Banks.{isCut, takes, needsOpen, shutOut, shut, statesWithout, statesUnder, banksUnder}
 use Rattle.bank_theory.specs.Banks.{freshBanks}
 use Rattle.bank_theory.specs.BankHistory.{Seen, seenThen, seenAfter}
 use Rattle.bank_theory.specs.BankRuns.{rowCalls}
 use Rattle.bank_theory.specs.Leaving.{state-without}
-use Rattle.bank_theory.specs.BankLaws.{bank-small, taken}
+use Rattle.bank_theory.specs.BankLaws.{bank-small, taken, only-cut}
 use Rattle.bank_theory.specs.UnderBanks.{states-under}
 
 -- a state for each bank, and no frame of an off bank is held
@@ -45,7 +44,7 @@ put-needs Drop e = e
 module _ (states banks : List ℕ) (call : Call) (good : GoodStates states) (through : shut banks call ≡ false)
     (ok : accepts states call ≡ true) where
   not-there : call .frame < frames → bankState banks (bankOf (call .frame)) ≡ off → stateOf states (call .frame) ≡ absent → ⊥
-  unfolding shut inOpen
+  unfolding shutOut inOpen
   not-there small isOff gone =
       let state = stateOf states (call .frame) in
       let put : isPut (call .event) ≡ true =
@@ -56,7 +55,7 @@ powered-frame : (seen : Seen) (call : Call) → GoodStates (seen .states) → Po
 unfolding seenThen statesUnder banksUnder
 powered-frame seen call good powered =
     by-cases (shut (seen .banks) call)
-    (λ e. rw e (record { long = powered .long; empty = powered .empty }))
+    (λ e. rw e powered)
     (λ through. rw through
     (by-cases (accepts (seen .states) call)
     (λ ok. record {
@@ -68,21 +67,11 @@ powered-frame seen call good powered =
           (λ e. state-other (seen .states) call good ok frame (eqb-false frame (call .frame) e) ∙
           powered .empty frame small isOff);
     })
-    (λ refused. rw (states-refused (seen .states) call refused)
-    (record { long = powered .long; empty = powered .empty }))))
-
--- a bank becomes off by a cut alone
-pub only-cuts : (gating : Gating) (state : ℕ) → isCut gating ≡ false → gatedTo gating state ≡ off → ⊥
-unfolding gatedTo
-only-cuts Close state kept isOff =
-    by-cases (eqb state opened) (λ e. omega (arith, rw e at isOff)) (λ e. omega (arith, rw e at isOff))
-only-cuts Cut state kept isOff = clash refl kept
-only-cuts Open state kept isOff =
-    by-cases (eqb state opened) (λ e. omega (arith, rw e at isOff)) (λ e. omega (arith, rw e at isOff))
+    (λ refused. rw (states-refused (seen .states) call refused) powered)))
 
 -- an accepted bank call
 module _ (seen : Seen) (gating : Gating) (bank : ℕ) (powered : Powered seen)
-    (ok : eqb (gatingRefusal (seen .states) (seen .banks) gating bank) 0 ≡ true) where
+    (ok : takes (seen .states) (seen .banks) gating bank ≡ true) where
   next : ℕ
   next = gatedTo gating (bankState (seen .banks) bank)
 
@@ -109,9 +98,8 @@ module _ (seen : Seen) (gating : Gating) (bank : ℕ) (powered : Powered seen)
   leaves : (frame : ℕ) → frame < frames → bankOf frame ≡ bank → next ≡ off → stateOf thenStates frame ≡ absent
   unfolding inBank next
   leaves frame small at isOff =
-      by-cases (isCut gating)
-      (λ cut. rw (cut, state-without (inBank bank) (seen .states) frame small, eq-eqb (bankOf frame) bank at))
-      (λ kept. absurd (only-cuts gating (bankState (seen .banks) bank) kept isOff))
+      let cut : isCut gating ≡ true = ap isCut (only-cut gating (bankState (seen .banks) bank) isOff .0) in
+      rw (cut, state-without (inBank bank) (seen .states) frame small, eq-eqb (bankOf frame) bank at)
 
   switched-powered : Powered (record { states = thenStates; banks = set (seen .banks) bank next })
   switched-powered =
@@ -127,13 +115,9 @@ module _ (seen : Seen) (gating : Gating) (bank : ℕ) (powered : Powered seen)
 powered-bank : (seen : Seen) (gating : Gating) (bank : ℕ) → Powered seen → Powered (seenThen seen (ofBank gating bank))
 unfolding seenThen statesUnder banksUnder next
 powered-bank seen gating bank powered =
-    by-cases (eqb (gatingRefusal (seen .states) (seen .banks) gating bank) 0)
-    (λ ok. rw ok
-    (by-cases (isCut gating) (λ c. rw c (rw c at (switched-powered seen gating bank powered ok)))
-    (λ c. rw c (rw c at (switched-powered seen gating bank powered ok)))))
-    (λ refused. rw refused
-    (by-cases (isCut gating) (λ c. rw c (record { long = powered .long; empty = powered .empty }))
-    (λ c. rw c (record { long = powered .long; empty = powered .empty }))))
+    by-cases (takes (seen .states) (seen .banks) gating bank)
+    (λ ok. rw (ok, and-true (isCut gating)) (switched-powered seen gating bank powered ok))
+    (λ refused. rw (refused, and-false (isCut gating)) powered)
 
 -- the states of frames are those of a row alone
 pub good-under : (history : List Step) → GoodStates (seenAfter history .states)

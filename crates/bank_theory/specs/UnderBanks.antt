@@ -3,9 +3,8 @@
 use Prim.Native.Nat.{ℕ, _+_, _*_}
 use native.Mathlib.Omega.{arith}
 use mathlib.Core.Path.{_≡_, refl, sym, _∙_, ap}
-use mathlib.Core.Bool.{true}
+use mathlib.Core.Bool.{true, _&&_}
 use mathlib.Core.List.{List, [], _∷_, _++_}
-use lib.Dec.{eqb}
 use borrow.Author.Tests.{eqb-true}
 use Rattle.rules.specs.Limits.{bankFrames}
 use Rattle.rules.specs.Cases.{by-cases}
@@ -13,12 +12,14 @@ use Rattle.row_theory.specs.States.{Call, stateOf, accepts, statesThen}
 use Rattle.row_theory.specs.Row.{Row, emptyRow, moved, after}
 use Rattle.row_theory.specs.Runs.{rowAfter}
 use Rattle.row_theory.specs.History.{statesAfter}
+use Rattle.row_theory.specs.Counting.{and-left, and-right}
 use Rattle.row_theory.specs.GoodStates.{good-after, states-refused}
 use Rattle.row_theory.specs.SoundRow.{sound-after, after-accepted, after-refused}
 use Rattle.bank_theory.specs.declared.Gating.{Gating}
-use Rattle.bank_theory.specs.Banks.{Step, ofFrame, ofBank, inBank, isCut, gatingRefusal, shut, statesUnder, banksUnder}
+use Rattle.bank_theory.specs.Banks.{Step, ofFrame, ofBank, inBank, isCut, gatingRefusal, takes, cuts, shut, statesUnder}
+use Rattle.bank_theory.specs.Banks.{banksUnder}
 use Rattle.bank_theory.specs.BankHistory.{Seen, seenThen, seenAfter}
-use Rattle.bank_theory.specs.Gated.{Gated, freshGated, rowWithout, takes, switched, gatedThen}
+use Rattle.bank_theory.specs.Gated.{Gated, freshGated, rowWithout, rowUnder, gatedThen}
 use Rattle.bank_theory.specs.BankRuns.{gatedAfter, drops, callsOf, rowCalls}
 use Rattle.bank_theory.specs.Leaving.{without-same}
 use Rattle.bank_theory.specs.Dropping.{within, drops-leave}
@@ -36,14 +37,12 @@ states-after row call =
 
 -- a call changes them as the history says
 seen-then : (gated : Gated) (step : Step) → seenIn (gatedThen gated step) ≡ seenThen (seenIn gated) step
-unfolding gatedThen seenThen statesUnder banksUnder takes switched rowWithout
+unfolding gatedThen seenThen statesUnder banksUnder rowUnder rowWithout
 seen-then gated (ofFrame call) =
     by-cases (shut (gated .banks) call) (λ e. rw e)
     (λ e. rw e (λ i. record { states = states-after (gated .row) call i; banks = gated .banks }))
 seen-then gated (ofBank gating bank) =
-    by-cases (eqb (gatingRefusal (gated .row .states) (gated .banks) gating bank) 0)
-    (λ e. rw e (by-cases (isCut gating) (λ c. rw c) (λ c. rw c)))
-    (λ e. rw e (by-cases (isCut gating) (λ c. rw c) (λ c. rw c)))
+    by-cases (cuts (gated .row .states) (gated .banks) gating bank) (λ e. rw e) (λ e. rw e)
 
 pub same-seen : (history : List Step) → seenIn (gatedAfter history) ≡ seenAfter history
 unfolding gatedAfter seenAfter freshGated emptyRow
@@ -69,18 +68,18 @@ cut-drops calls banks gating bank cut ok =
 -- one call more
 row-then : (gated : Gated) (calls : List Call) (step : Step) → gated .row ≡ rowAfter calls →
     gatedThen gated step .row ≡ rowAfter (callsOf (seenIn gated) step ++ calls)
-unfolding gatedThen callsOf takes switched
+unfolding gatedThen rowUnder callsOf
 row-then gated calls (ofFrame call) same =
     by-cases (shut (gated .banks) call) (λ e. rw e same)
     (λ e. rw e (unfold rowAfter in ap (λ (r : Row). after r call) same))
 row-then gated calls (ofBank gating bank) same =
-    by-cases (eqb (gatingRefusal (gated .row .states) (gated .banks) gating bank) 0)
-    (λ ok. by-cases (isCut gating)
-    (λ cut. rw (ok, cut)
+    let ok = takes (gated .row .states) (gated .banks) gating bank in
+    by-cases (isCut gating && ok)
+    (λ both. rw both
     (ap (rowWithout (inBank bank)) same ∙
-    cut-drops calls (gated .banks) gating bank cut (rw (← same) (eqb-true _ 0 ok))))
-    (λ no. rw (ok, no) same))
-    (λ refused. rw refused (by-cases (isCut gating) (λ c. rw c same) (λ c. rw c same)))
+    cut-drops calls (gated .banks) gating bank (and-left (isCut gating) ok both)
+    (rw (← same) (eqb-true _ 0 (and-right (isCut gating) ok both)))))
+    (λ kept. rw kept same)
 
 -- B2, B3: what holds of the row alone holds of the row under banks
 pub under-banks : (history : List Step) → gatedAfter history .row ≡ rowAfter (rowCalls history)

@@ -1,5 +1,6 @@
 // Banks of frames (rules B1 to B6): the states of a bank, and the kind of call that gates its power. The definitions and the
 // theory of call histories stand in specs/; the calls are in `banks`.
+
 // The states of a bank (rule B1).
 pub const OFF: u8 = 0;
 

@@ -28,14 +28,15 @@ use rules::FRAMES;
 use rules::Frame;
 use rules::Refusal;
 ghost use mathlib.Core.Path.{_≡_};
+ghost use Rattle.row_theory.specs.Row.{hasMark};
 ghost use Rattle.row_theory.specs.Promise.{asked};
-ghost use Rattle.row_theory.specs.LentRow.{rowAtEntry, rowAtExit, askedRow};
-ghost use Rattle.bank_theory.specs.Banks.{ofFrame, ofBank, needsOpen};
+ghost use Rattle.row_theory.specs.LentRow.{askedRow};
+ghost use Rattle.bank_theory.specs.Banks.{ofFrame, ofBank, needsOpen, shutOut};
 ghost use Rattle.bank_theory.specs.Gated.{refusedReply};
-ghost use Rattle.bank_theory.specs.BankPromise.{bankMemory, gatedWith, ReachedGates, StandsUnder, AnsweredUnder, FreshBanks};
+ghost use Rattle.bank_theory.specs.BankPromise.{gatedWith, ReachedGates, StandsUnder, AnsweredUnder, FreshBanks};
 ghost use Rattle.bank_theory.specs.BankPromise.{Oldest-open};
-ghost use Rattle.bank_theory.specs.LentBanks.{banksNow, banksAtEntry, banksAtExit};
-ghost use Rattle.bank_theory.specs.BankLending.{shutBy, Closing};
+ghost use Rattle.bank_theory.specs.LentBanks.{banksNow, banksAtEntry, banksAtExit, banksKept};
+ghost use Rattle.bank_theory.specs.BankLending.{Closing};
 ghost use Rattle.bank_theory.specs.declared.Gating.the-variants.{Cut};
 
 // Open banks over a fresh row, whatever stood in the memory (rule B1).
@@ -75,7 +76,7 @@ fn needs_open(event: Event) -> bool
 
 // Is this such a call in a bank that is not open (rule B3)? A number that is no frame's is the row's to refuse.
 fn shut(gates: &PerFrame, event: Event, frame: u8) -> bool
-    ensures { λ r. ⌜ r ≡ shutBy (now (gates .entry)) (asked event frame) ⌝ }
+    ensures { λ r. ⌜ r ≡ shutOut (hasMark (now (gates .entry))) (asked event frame) ⌝ }
 {
     if FRAMES <= frame {
         return false;
@@ -99,9 +100,8 @@ pub fn call(
     frame: Frame,
 ) -> Reply
     requires { ⌜ StandsUnder (banksNow slots places states front held gates) ⌝ }
-    ensures { λ r. ⌜ AnsweredUnder (bankMemory (rowAtEntry slots places states front held) (now (gates .entry)))
-        (ofFrame (asked event (frame .0))) r
-        (bankMemory (rowAtExit slots places states front held) (now (gates .entry))) ⌝ }
+    ensures { λ r. ⌜ AnsweredUnder (banksAtEntry slots places states front held gates) (ofFrame (asked event (frame .0))) r
+        (banksKept slots places states front held gates) ⌝ }
 {
     if shut(gates, event, frame.0) {
         return refused(BANK_NOT_OPEN);

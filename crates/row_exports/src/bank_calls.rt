@@ -12,12 +12,12 @@ use rules::Bank;
 use rules::Frame;
 ghost use mathlib.Core.Path.{_≡_};
 ghost use Rattle.row_theory.specs.Promise.{asked};
-ghost use Rattle.row_theory.specs.LentRow.{rowAtEntry, rowAtExit, askedRow};
+ghost use Rattle.row_theory.specs.LentRow.{askedRow};
 ghost use Rattle.row_theory.specs.declared.Event.the-variants.{Put, Touch, Start, End, Drop};
 ghost use Rattle.bank_theory.specs.Banks.{ofFrame, ofBank};
 ghost use Rattle.bank_theory.specs.Gated.{victimUnder};
-ghost use Rattle.bank_theory.specs.BankPromise.{bankMemory, gatedWith, ReachedGates, StandsUnder, FreshBanks};
-ghost use Rattle.bank_theory.specs.LentBanks.{banksNow, banksAtEntry, banksAtExit};
+ghost use Rattle.bank_theory.specs.BankPromise.{gatedWith, ReachedGates, StandsUnder, FreshBanks};
+ghost use Rattle.bank_theory.specs.LentBanks.{banksNow, banksAtEntry, banksAtExit, banksKept};
 ghost use Rattle.bank_theory.specs.declared.Gating.the-variants.{Close, Cut, Open};
 ghost use Rattle.row_exports.specs.Told.{chosenOf};
 ghost use Rattle.row_exports.specs.BanksTold.{BanksTold};
@@ -34,9 +34,8 @@ fn call(
     frame: u8,
 ) -> Replied
     requires { ⌜ StandsUnder (banksNow slots places states front held gates) ⌝ }
-    ensures { λ r. ⌜ BanksTold (bankMemory (rowAtEntry slots places states front held) (now (gates .entry)))
-        (ofFrame (asked event frame)) r
-        (bankMemory (rowAtExit slots places states front held) (now (gates .entry))) ⌝ }
+    ensures { λ r. ⌜ BanksTold (banksAtEntry slots places states front held gates) (ofFrame (asked event frame)) r
+        (banksKept slots places states front held gates) ⌝ }
 {
     let reply = banks::call(
         slots,
@@ -106,9 +105,8 @@ pub extern "C" fn musselrung_banks_put(
     frame: u8,
 ) -> Replied
     requires { ⌜ StandsUnder (banksNow slots places states front held gates) ⌝ }
-    ensures { λ r. ⌜ BanksTold (bankMemory (rowAtEntry slots places states front held) (now (gates .entry)))
-        (ofFrame (asked Put frame)) r
-        (bankMemory (rowAtExit slots places states front held) (now (gates .entry))) ⌝ }
+    ensures { λ r. ⌜ BanksTold (banksAtEntry slots places states front held gates) (ofFrame (asked Put frame)) r
+        (banksKept slots places states front held gates) ⌝ }
 {
     call(slots, places, states, front, held, gates, Event::Put, frame)
 }
@@ -125,9 +123,8 @@ pub extern "C" fn musselrung_banks_touch(
     frame: u8,
 ) -> Replied
     requires { ⌜ StandsUnder (banksNow slots places states front held gates) ⌝ }
-    ensures { λ r. ⌜ BanksTold (bankMemory (rowAtEntry slots places states front held) (now (gates .entry)))
-        (ofFrame (asked Touch frame)) r
-        (bankMemory (rowAtExit slots places states front held) (now (gates .entry))) ⌝ }
+    ensures { λ r. ⌜ BanksTold (banksAtEntry slots places states front held gates) (ofFrame (asked Touch frame)) r
+        (banksKept slots places states front held gates) ⌝ }
 {
     call(
         slots,
@@ -153,9 +150,8 @@ pub extern "C" fn musselrung_banks_start(
     frame: u8,
 ) -> Replied
     requires { ⌜ StandsUnder (banksNow slots places states front held gates) ⌝ }
-    ensures { λ r. ⌜ BanksTold (bankMemory (rowAtEntry slots places states front held) (now (gates .entry)))
-        (ofFrame (asked Start frame)) r
-        (bankMemory (rowAtExit slots places states front held) (now (gates .entry))) ⌝ }
+    ensures { λ r. ⌜ BanksTold (banksAtEntry slots places states front held gates) (ofFrame (asked Start frame)) r
+        (banksKept slots places states front held gates) ⌝ }
 {
     call(
         slots,
@@ -181,9 +177,8 @@ pub extern "C" fn musselrung_banks_end(
     frame: u8,
 ) -> Replied
     requires { ⌜ StandsUnder (banksNow slots places states front held gates) ⌝ }
-    ensures { λ r. ⌜ BanksTold (bankMemory (rowAtEntry slots places states front held) (now (gates .entry)))
-        (ofFrame (asked End frame)) r
-        (bankMemory (rowAtExit slots places states front held) (now (gates .entry))) ⌝ }
+    ensures { λ r. ⌜ BanksTold (banksAtEntry slots places states front held gates) (ofFrame (asked End frame)) r
+        (banksKept slots places states front held gates) ⌝ }
 {
     call(slots, places, states, front, held, gates, Event::End, frame)
 }
@@ -200,9 +195,8 @@ pub extern "C" fn musselrung_banks_drop(
     frame: u8,
 ) -> Replied
     requires { ⌜ StandsUnder (banksNow slots places states front held gates) ⌝ }
-    ensures { λ r. ⌜ BanksTold (bankMemory (rowAtEntry slots places states front held) (now (gates .entry)))
-        (ofFrame (asked Drop frame)) r
-        (bankMemory (rowAtExit slots places states front held) (now (gates .entry))) ⌝ }
+    ensures { λ r. ⌜ BanksTold (banksAtEntry slots places states front held gates) (ofFrame (asked Drop frame)) r
+        (banksKept slots places states front held gates) ⌝ }
 {
     call(
         slots,

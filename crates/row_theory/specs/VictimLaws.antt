@@ -13,11 +13,13 @@ use Rattle.rules.specs.Lists.{times}
 use Rattle.row_theory.specs.States.{Call, idle, stateOf, heldBit}
 use Rattle.row_theory.specs.Slots.{framesIn, passes, oldest}
 use Rattle.row_theory.specs.Row.{idleAmong}
-use Rattle.row_theory.specs.History.{statesAfter, momentAfter, MayGo, Victim-is}
+use Rattle.row_theory.specs.History.{statesAfter, momentAfter, MayGo, Victim-is, Victim-of}
 use Rattle.row_theory.specs.Runs.{rowAfter}
 use Rattle.row_theory.specs.Counting.{and-left, and-right}
 use Rattle.row_theory.specs.SlotLaws.{times-past}
 use Rattle.row_theory.specs.SoundRow.{sound-after}
+use Rattle.row_theory.specs.declared.Victim.{Victim}
+use Rattle.row_theory.specs.declared.Victim.the-variants.{Given, Refused}
 use Rattle.row_theory.specs.Oldest.{EarliestPassing, oldest-framesIn, oldest-none, oldest-chosen}
 
 -- an idle frame stands in the slots
@@ -72,3 +74,17 @@ module _ (history : List Call) (may : ℕ → Bool) where
       let test = idleAmong may (statesAfter history) in
       oldest-none test (framesIn (rowAfter history .slots)) (rw (oldest-framesIn test (rowAfter history .slots)) none)
       frame (idle-there history frame (go .0)) (goes-passes history may frame go)
+
+-- W7: an answer about the frames that may go and their moments is one about frames that may go alike, whose moments are in the
+-- same order
+pub victim-alike : {goes also : ℕ → Type 0} {moment and : ℕ → ℕ} (states : List ℕ) (victim : Victim) →
+    ((frame : ℕ) → goes frame → also frame) → ((frame : ℕ) → also frame → goes frame) →
+    ((frame other : ℕ) → moment frame < moment other → and frame < and other) → Victim-of goes moment states victim →
+    Victim-of also and states victim
+victim-alike states (Given frame) to from later says =
+    record {
+      mayGo = to (frame .0) (says .mayGo);
+      earliest = λ other apart go. later (frame .0) other (says .earliest other apart (from other go));
+    }
+victim-alike states (Refused refusal) to from later says =
+    record { none = λ frame go. says .none frame (from frame go); number = says .number; place = says .place }

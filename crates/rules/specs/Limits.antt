@@ -27,13 +27,6 @@ held = 32
 abbrev pub slots : ℕ
 slots = 64
 
--- L8: bank numbers are below this, and each bank has so many frames
-abbrev pub banks : ℕ
-banks = 4
-
-abbrev pub bankFrames : ℕ
-bankFrames = 16
-
 -- L7: policy numbers are below this, and a session takes those below `opt`
 abbrev pub policies : ℕ
 policies = 3
@@ -46,6 +39,13 @@ lfu = 1
 
 abbrev pub opt : ℕ
 opt = 2
+
+-- L8: bank numbers are below this, and each bank has so many frames
+abbrev pub banks : ℕ
+banks = 4
+
+abbrev pub bankFrames : ℕ
+bankFrames = 16
 
 -- L1 as a test: is this number one of 1 to the limit?
 abbrev pub isCapacity : ℕ → Bool
