@@ -5,6 +5,7 @@ pub mod Limits
 pub mod Refusals
 pub mod Lists
 pub mod Lent
+pub mod Told
 -- A marked case, for the table of all cases:
 pub mod Case
 -- Laws:

@@ -1,4 +1,4 @@
--- The refusal numbers (docs/RULES.md, R1 to R33), and what an answer that may be a refusal says.
+-- The refusal numbers (docs/RULES.md, R1 to R40), and what an answer that may be a refusal says.
 use Prim.Native.Nat.{ℕ, zero, suc}
 use mathlib.Core.Bool.{Bool, true, false, cond}
 use mathlib.Core.List.{List, [], _∷_}
@@ -75,6 +75,10 @@ badBank = 32
 
 abbrev pub bankNotOpen : ℕ
 bankNotOpen = 33
+
+-- at the C boundary alone
+abbrev pub unsound : ℕ
+unsound = 40
 
 -- A1: a refusal is its number and a place
 abbrev pub refusal : ℕ → ℕ → Answer

@@ -1,6 +1,7 @@
 // What every other crate shares: the limits, the refusal numbers, and the kinds of number that must not
 // be mixed. The definitions beside them (specs/Limits.antt, specs/Refusals.antt) name the same numbers for
 // promises: code that uses one and a promise that cites the other are proved only while both agree.
+ghost use Prim.Native.Nat.{min};
 ghost use mathlib.Core.Path.{_≡_};
 ghost use Rattle.rules.specs.Refusals.{refusal};
 
@@ -37,7 +38,7 @@ pub const LFU: u8 = 1;
 
 pub const OPT: u8 = 2;
 
-// Refusal numbers (rules R1 to R33).
+// Refusal numbers (rules R1 to R33, R40).
 pub const BAD_LIMIT: u8 = 1;
 
 pub const TOO_MANY_REFERENCES: u8 = 2;
@@ -84,6 +85,9 @@ pub const BAD_BANK: u8 = 32;
 
 pub const BANK_NOT_OPEN: u8 = 33;
 
+// At the C boundary alone (rule R40): the lent session, row or banks fail the call's test.
+pub const UNSOUND: u8 = 40;
+
 // A refusal has a number and a place (rule A1).
 pub struct Refusal {
     pub number: u8,
@@ -101,4 +105,24 @@ pub fn refuse(number: u8, place: usize) -> Answer
     ensures { λ r. ⌜ r ≡ refusal number place ⌝ }
 {
     Answer::Refused(Refusal { number, place })
+}
+
+// C passes a page, a frame, a bank and a policy as 32 bits, so that none is cut on its way (rule X1). A number that the
+// narrower kind does not hold becomes that kind's largest, which is past every limit as well.
+pub fn byte_of(n: u32) -> u8
+    ensures { λ r. ⌜ r ≡ min n 255 ⌝ }
+{
+    if n < 255 {
+        return n as u8;
+    }
+    255
+}
+
+pub fn short_of(n: u32) -> u16
+    ensures { λ r. ⌜ r ≡ min n 65535 ⌝ }
+{
+    if n < 65535 {
+        return n as u16;
+    }
+    65535
 }
