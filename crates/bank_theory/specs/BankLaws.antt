@@ -9,9 +9,8 @@ use borrow.Author.Tests.{eqb-true, eqb-false, le-leb, le-ltb, lt-ltb, leb-true, 
 use Rattle.rules.specs.Limits.{frames, bankFrames}
 use Rattle.rules.specs.Limits
 use Rattle.rules.specs.Refusals.{wrongBankState, bankBusy, badBank}
-use Rattle.rules.specs.Cases.{by-cases, clash}
+use Rattle.rules.specs.Cases.{by-cases, clash, and-right}
 use Rattle.row_theory.specs.States.{busy, stateOf}
-use Rattle.row_theory.specs.Counting.{and-right}
 use Rattle.bank_theory.specs.declared.Gating.{Gating}
 use Rattle.bank_theory.specs.declared.Gating.the-variants.{Close, Cut, Open}
 use Rattle.bank_theory.specs.Banks.{off, opened, closing, inBank, bankOf, bankState, gatedTo, isCut}

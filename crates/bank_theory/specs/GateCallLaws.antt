@@ -50,7 +50,7 @@ unfolding gatingRefusal
 gate-bad-bank {m} {gating} {bank} stands past = gate-refused stands (rw (le-leb Limits.banks bank past)) (omega arith)
 
 -- B2: a state that a call gives is one of the three, or the refusal
-gated-range : (gating : Gating) (state : ℕ) → closing < gatedTo gating state → gatedTo gating state ≡ wrongBankState
+pub gated-range : (gating : Gating) (state : ℕ) → closing < gatedTo gating state → gatedTo gating state ≡ wrongBankState
 unfolding gatedTo
 gated-range Close state big = by-cases (eqb state opened) (λ e. absurd (omega (arith, rw e at big))) (λ e. rw e)
 gated-range Cut state big = by-cases (eqb state closing) (λ e. absurd (omega (arith, rw e at big))) (λ e. rw e)

@@ -3,7 +3,7 @@ use Prim.Native.Nat.{ℕ}
 use mathlib.Core.List.{List}
 use denote.Ref.{RefT}
 use Rattle.rules.specs.Lent.{Changed}
-use Rattle.row_theory.specs.LentRow.{rowNow, rowAtEntry, rowAtExit}
+use Rattle.row_theory.specs.LentRow.{rowNow, rowAtEntry, rowAtExit, askedMemory}
 use Rattle.bank_theory.specs.BankPromise.{BankMemory, bankMemory}
 
 -- a row, and each frame's gate
@@ -20,3 +20,7 @@ module _ (slots places states : Changed (List ℕ)) (front held : Changed ℕ) (
   -- after a call that only reads the gates
   abbrev pub banksKept : BankMemory
   banksKept = bankMemory (rowAtExit slots places states front held) (gates .entry .now)
+
+-- banks that a call only reads
+abbrev pub askedBanks : RefT (List ℕ) → RefT (List ℕ) → RefT (List ℕ) → ℕ → ℕ → RefT (List ℕ) → BankMemory
+askedBanks slots places states front held gates = bankMemory (askedMemory slots places states front held) (gates .now)

@@ -6,6 +6,7 @@ pub mod BankHistory
 pub mod Gated
 pub mod BankRuns
 pub mod BankPromise
+pub mod BankTest
 pub mod LentBanks
 -- What tests it: the incident, the orders of refusals, and a cut that leaves the front.
 pub mod MarkedBanks
@@ -22,7 +23,9 @@ pub mod Powered
 pub mod BankPromiseLaws
 -- What the code's own steps ask and leave, and the laws that its proofs cite.
 pub mod GateLaws
+pub mod Regated
 pub mod BankLending
 pub mod BankStepLaws
 pub mod BankCallLaws
 pub mod GateCallLaws
+pub mod BankTestLaws

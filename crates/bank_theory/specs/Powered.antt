@@ -124,7 +124,7 @@ pub good-under : (history : List Step) → GoodStates (seenAfter history .states
 good-under history = subst GoodStates (states-under history) (good-after (rowCalls history))
 
 -- B1: fresh banks are open
-each-open : (n bank : ℕ) → bank < n → getD (replicate n opened) bank off ≡ opened
+pub each-open : (n bank : ℕ) → bank < n → getD (replicate n opened) bank off ≡ opened
 each-open zero bank small = absurd (not-suc-le-zero small)
 each-open (suc n) zero small = refl
 each-open (suc n) (suc bank) small = each-open n bank (le-of-suc-le-suc small)

@@ -7,12 +7,11 @@ use mathlib.Core.Bool.{true, _&&_}
 use mathlib.Core.List.{List, [], _∷_, _++_}
 use borrow.Author.Tests.{eqb-true}
 use Rattle.rules.specs.Limits.{bankFrames}
-use Rattle.rules.specs.Cases.{by-cases}
+use Rattle.rules.specs.Cases.{by-cases, and-left, and-right}
 use Rattle.row_theory.specs.States.{Call, stateOf, accepts, statesThen}
 use Rattle.row_theory.specs.Row.{Row, emptyRow, moved, after}
 use Rattle.row_theory.specs.Runs.{rowAfter}
 use Rattle.row_theory.specs.History.{statesAfter}
-use Rattle.row_theory.specs.Counting.{and-left, and-right}
 use Rattle.row_theory.specs.GoodStates.{good-after, states-refused}
 use Rattle.row_theory.specs.SoundRow.{sound-after, after-accepted, after-refused}
 use Rattle.bank_theory.specs.declared.Gating.{Gating}

@@ -4,6 +4,7 @@
 // and calls give (`StandsUnder`), and each call leaves such ones. What the calls mean, and what any sequence of them gives,
 // stands in `bank_theory`.
 mod gating;
+mod testing;
 
 use bank_theory::CLOSING;
 use bank_theory::Gating;
@@ -27,6 +28,7 @@ use rules::Bank;
 use rules::FRAMES;
 use rules::Frame;
 use rules::Refusal;
+pub use testing::sound;
 ghost use mathlib.Core.Path.{_≡_};
 ghost use Rattle.row_theory.specs.Row.{hasMark};
 ghost use Rattle.row_theory.specs.Promise.{asked};

@@ -5,6 +5,7 @@
 // specs/Promise.antt alone.
 mod slots;
 mod table;
+mod testing;
 
 use row_theory::ABSENT;
 use row_theory::BUSY;
@@ -25,6 +26,7 @@ use slots::NOWHERE;
 use slots::shift;
 use table::held_bit;
 use table::verdict;
+pub use testing::sound;
 ghost use mathlib.Core.Path.{_≡_};
 ghost use Rattle.row_theory.specs.Runs.{Reached};
 ghost use Rattle.row_theory.specs.Row.{anyFrame, hasMark};

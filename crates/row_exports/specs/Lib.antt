@@ -1,8 +1,10 @@
--- What the exported calls of the row and of the row under banks promise: the promises of the proved ones, told in numbers.
+-- What the exported calls of the row and of the row under banks promise, told in numbers, of any lent memory.
 pub mod Told
 pub mod RowTold
 pub mod BanksTold
 -- Laws: that the proved functions' promises give these, that two answers that meet one are equal, and that what one call
--- leaves is what the next asks.
+-- leaves passes the next one's test.
+pub mod Narrow
 pub mod RowLaws
+pub mod BanksLaws
 pub mod RowDriving

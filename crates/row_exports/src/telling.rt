@@ -1,55 +1,59 @@
-// Answers told in numbers.
+// Answers told in numbers: one that is handed back and one that is written into lent memory.
 use row_theory::Reply;
 use row_theory::Victim;
+use rules::UNSOUND;
 ghost use mathlib.Core.Path.{_≡_};
+ghost use Rattle.rules.specs.Lists.{one};
+ghost use Rattle.rules.specs.Refusals.{unsound as «unsound-number»};
+ghost use Rattle.rules.specs.Told.{told};
 ghost use Rattle.row_exports.specs.Told.{repliedOf, chosenOf};
 
-// A reply in numbers: 0, or the refusal's number; the slots examined; and the refusal's place.
-#[repr(C)]
-pub struct Replied {
-    pub number: u8,
-    pub examined: u8,
-    pub place: usize,
-}
-
-pub(crate) fn reply_in_numbers(reply: Reply) -> Replied
-    ensures { λ r. ⌜ r ≡ repliedOf reply ⌝ }
+// A reply: 0 and the slots examined, or the refusal's number and place.
+pub(crate) fn tell_reply(reply: Reply, value: &mut usize) -> u32
+    ensures { λ r. ⌜ told r (now (value .exit)) ≡ repliedOf reply ⌝ }
 {
     match reply {
-        Reply::Done(n) => Replied {
-            number: 0,
-            examined: n,
-            place: 0,
-        },
-        Reply::Refused(r) => Replied {
-            number: r.number,
-            examined: 0,
-            place: r.place,
-        },
+        Reply::Done(n) => {
+            *value = n as usize;
+            0
+        }
+        Reply::Refused(r) => {
+            *value = r.place;
+            r.number as u32
+        }
     }
 }
 
-// A victim in numbers: 0, or the refusal's number; the frame; and the refusal's place.
-#[repr(C)]
-pub struct Chosen {
-    pub number: u8,
-    pub frame: u8,
-    pub place: usize,
-}
-
-pub(crate) fn victim_in_numbers(victim: Victim) -> Chosen
-    ensures { λ r. ⌜ r ≡ chosenOf victim ⌝ }
+// A victim: 0 and the frame, or the refusal's number and place.
+pub(crate) fn tell_victim(victim: Victim, value: &mut usize) -> u32
+    ensures { λ r. ⌜ told r (now (value .exit)) ≡ chosenOf victim ⌝ }
 {
     match victim {
-        Victim::Given(f) => Chosen {
-            number: 0,
-            frame: f.0,
-            place: 0,
-        },
-        Victim::Refused(none) => Chosen {
-            number: none.number,
-            frame: 0,
-            place: none.place,
-        },
+        Victim::Given(f) => {
+            *value = f.0 as usize;
+            0
+        }
+        Victim::Refused(none) => {
+            *value = none.place;
+            none.number as u32
+        }
     }
+}
+
+// Memory that fails its test (rule R40): 40, and place 0.
+pub(crate) fn unsound(value: &mut usize) -> u32
+    ensures { λ r. ⌜ told r (now (value .exit)) ≡ told «unsound-number» 0 ⌝ }
+{
+    *value = 0;
+    UNSOUND as u32
+}
+
+// A test: 1 where it passes, 0 where it fails.
+pub(crate) fn tell_test(passes: bool) -> u32
+    ensures { λ r. ⌜ r ≡ one passes ⌝ }
+{
+    if passes {
+        return 1;
+    }
+    0
 }

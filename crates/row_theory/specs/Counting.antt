@@ -1,25 +1,15 @@
--- Counting in lists of numbers: what storing a number and taking one out change of how often each stands there; and both
--- halves of a test.
+-- Counting in lists of numbers: what storing a number and taking one out change of how often each stands there.
 use Prim.Native.Nat.{ℕ, zero, suc, _+_, _-_, _<_, _≤_, zero-le}
 use native.Mathlib.Nat.{le-refl, not-suc-le-zero, le-of-suc-le-suc}
 use native.Mathlib.Omega.{arith}
 use mathlib.Core.Path.{_≡_, refl, sym, _∙_}
-use mathlib.Core.Bool.{Bool, true, false, cond, _&&_}
+use mathlib.Core.Bool.{cond}
 use mathlib.Core.List.{List, [], _∷_}
 use lib.Dec.{eqb}
 use lib.ListN.{length, getD, set}
 use borrow.Author.Tests.{eq-eqb, ne-eqb, eqb-true}
 use Rattle.rules.specs.Cases.{by-cases}
 use Rattle.rules.specs.Lists.{times, without}
-
-pub and-left : (a b : Bool) → (a && b) ≡ true → a ≡ true
-and-left true b e = refl
-and-left false b e = e
-
-pub and-right : (a b : Bool) → (a && b) ≡ true → b ≡ true
-and-right true b e = e
-and-right false true e = refl
-and-right false false e = e
 
 -- a number at the head of a list counts once more
 pub times-cons : (x y : ℕ) (list : List ℕ) → times x (y ∷ list) ≡ cond (eqb y x) 1 0 + times x list

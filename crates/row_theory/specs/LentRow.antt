@@ -17,6 +17,10 @@ module _ (slots places states : Changed (List ℕ)) (front held : Changed ℕ) w
   abbrev pub rowAtExit : Memory
   rowAtExit = rowNow (slots .exit) (places .exit) (states .exit) (front .exit) (held .exit)
 
+-- a row that a call only reads
+abbrev pub askedMemory : RefT (List ℕ) → RefT (List ℕ) → RefT (List ℕ) → ℕ → ℕ → Memory
+askedMemory slots places states front held = memory (slots .now) (places .now) (states .now) front held
+
 -- the part of it that a victim is asked of
 abbrev pub askedRow : RefT (List ℕ) → RefT (List ℕ) → ℕ → ℕ → Row
 askedRow slots states front held = rowWith (slots .now) (states .now) front held

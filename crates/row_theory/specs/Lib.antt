@@ -7,6 +7,7 @@ pub mod Row
 pub mod History
 pub mod Runs
 pub mod Promise
+pub mod RowTest
 pub mod LentRow
 -- What holds over any calls from a fresh row, and of any answer that meets a promise.
 pub mod Theorems
@@ -26,10 +27,18 @@ pub mod SqueezeLaws
 pub mod Oldest
 pub mod VictimLaws
 pub mod PromiseLaws
+pub mod Tidy
 -- What the code's own steps ask and leave, and the laws that its proofs cite.
 pub mod Lending
 pub mod VerdictLaws
 pub mod PlaceLaws
+pub mod RebuildCalls
+pub mod RebuildSteps
+pub mod Rebuilt
+pub mod TestParts
+pub mod TestTidy
+pub mod TestLaws
+pub mod TestSteps
 pub mod Packing
 pub mod PackingLaws
 pub mod LendingLaws

@@ -9,10 +9,10 @@ use lib.Dec.{ltb, eqb}
 use borrow.Author.Tests.{eqb-true, eqb-false, lt-ltb, le-ltb, ltb-true, ltb-false}
 use Rattle.rules.specs.Limits.{frames}
 use Rattle.rules.specs.Lists.{times}
-use Rattle.rules.specs.Cases.{by-cases}
+use Rattle.rules.specs.Cases.{by-cases, and-left}
 use Rattle.row_theory.specs.Slots.{empty, framesIn, passes, older, oldest}
 use Rattle.row_theory.specs.Runs.{Earlier, Recent}
-use Rattle.row_theory.specs.Counting.{and-left, times-cons, times-same, times-other}
+use Rattle.row_theory.specs.Counting.{times-cons, times-same, times-other}
 use Rattle.row_theory.specs.SlotLaws.{framesIn-frame, framesIn-empty}
 
 -- what passes is a frame

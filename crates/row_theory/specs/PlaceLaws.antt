@@ -49,7 +49,7 @@ slotOf-there x (y ∷ row) d some =
     by-cases (eqb y x) (λ e. rw e (eqb-true y x e))
     (λ e. let more : 0 < times x row = rw e at some in rw e (slotOf-there x row d more))
 
-slotOf-none : (x : ℕ) (row : List ℕ) → times x row ≡ 0 → slotOf x row ≡ length row
+pub slotOf-none : (x : ℕ) (row : List ℕ) → times x row ≡ 0 → slotOf x row ≡ length row
 unfolding slotOf times
 slotOf-none x [] none = refl
 slotOf-none x (y ∷ row) none =
@@ -71,7 +71,7 @@ slotOf-other x (y ∷ row) zero v d inside old new = rw (ne-eqb v x new, ne-eqb 
 slotOf-other x (y ∷ row) (suc k) v d inside old new =
     by-cases (eqb y x) (λ e. rw e) (λ e. rw e (ap suc (slotOf-other x row k v d (le-of-suc-le-suc inside) old new)))
 
-slotOf-new : (x : ℕ) (row : List ℕ) (k : ℕ) → k < length row → times x row ≡ 0 → slotOf x (set row k x) ≡ k
+pub slotOf-new : (x : ℕ) (row : List ℕ) (k : ℕ) → k < length row → times x row ≡ 0 → slotOf x (set row k x) ≡ k
 unfolding slotOf times
 slotOf-new x [] k inside none = absurd (not-suc-le-zero inside)
 slotOf-new x (y ∷ row) zero inside none = rw (eq-eqb x x refl)

@@ -11,13 +11,12 @@ use lib.Dec.{ltb, eqb}
 use lib.ListN.{length, getD}
 use borrow.Author.Tests.{ltb-true, ltb-false}
 use Rattle.rules.specs.Limits.{frames, slots, held}
-use Rattle.rules.specs.Cases.{by-cases}
+use Rattle.rules.specs.Cases.{by-cases, and-left, and-right}
 use Rattle.row_theory.specs.States.{Call, accepts, moves}
 use Rattle.row_theory.specs.Slots.{Clear, empty, framesIn, vacated, roomyFront, frontThen}
 use Rattle.row_theory.specs.Row.{Row, moved, replyOf, examinedOf}
 use Rattle.row_theory.specs.History.{statesAfter}
 use Rattle.row_theory.specs.Runs.{rowAfter, PackedRow}
-use Rattle.row_theory.specs.Counting.{and-left, and-right}
 use Rattle.row_theory.specs.SlotLaws.{framesIn-frame, framesIn-empty, framesIn-length, squeezedFront-rest}
 use Rattle.row_theory.specs.RecentLaws.{fewer, recentThen, length-fewer}
 use Rattle.row_theory.specs.Holding.{vacate-holding}

@@ -8,14 +8,13 @@ use mathlib.Core.List.{List}
 use lib.Dec.{ltb, eqb}
 use borrow.Author.Tests.{eqb-true, lt-ltb, ltb-true, ltb-false}
 use Rattle.rules.specs.Limits.{frames}
-use Rattle.rules.specs.Cases.{by-cases}
+use Rattle.rules.specs.Cases.{by-cases, and-left, and-right}
 use Rattle.rules.specs.Lists.{times}
 use Rattle.row_theory.specs.States.{Call, idle, stateOf, heldBit}
 use Rattle.row_theory.specs.Slots.{framesIn, passes, oldest}
 use Rattle.row_theory.specs.Row.{idleAmong}
 use Rattle.row_theory.specs.History.{statesAfter, momentAfter, MayGo, Victim-is, Victim-of}
 use Rattle.row_theory.specs.Runs.{rowAfter}
-use Rattle.row_theory.specs.Counting.{and-left, and-right}
 use Rattle.row_theory.specs.SlotLaws.{times-past}
 use Rattle.row_theory.specs.SoundRow.{sound-after}
 use Rattle.row_theory.specs.declared.Victim.{Victim}

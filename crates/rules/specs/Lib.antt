@@ -10,6 +10,7 @@ pub mod Told
 pub mod Case
 -- Laws:
 pub mod Cases
+pub mod AllBelow
 pub mod AnswerLaws
 pub mod FirstBad
 pub mod TableLaws

@@ -1,17 +1,43 @@
--- `row_exports::frame_row::call`: what `row::call` promises, its reply told in numbers.
+-- `row_exports::frame_row::call`: 40 where the test fails, else what the proved function promises, told in numbers.
 use borrow.Author.Needs.{needs}
-use Rattle.row_exports.specs.RowLaws.{row-told}
+use Rattle.rules.specs.Cases.{turned-true, turned-false}
+use Rattle.row_exports.specs.Narrow.{narrow-call}
+use Rattle.row_exports.specs.RowLaws.{row-unsound, row-told}
 use Rattle.row_exports.proofs.frame_row.call.Statement.{statement}
 use Rattle.row_exports.proofs.frame_row.call.Tie as tie
 
-call-requires : tie.Need-call-requires
-call-requires c κs = search needs
+sound-requires : tie.Need-sound-requires
+sound-requires c κs = search needs
 
-reply-in-numbers-requires : tie.Need-reply-in-numbers-requires
-reply-in-numbers-requires c κs = search needs
+unsound-requires : tie.Need-unsound-requires
+unsound-requires c κs = search needs
 
 returns : tie.Need-returns
-returns c = row-told (c .before .call .ensures) (c .reply-in-numbers .ensures)
+returns c =
+    let failed = c .before .before in
+    rw (c .unsound .ensures) (row-unsound (failed .before .sound .ensures) (turned-true _ (failed .if1 .taken)))
+
+byte-of-requires : tie.Need-byte-of-requires
+byte-of-requires c κs = search needs
+
+call-requires : tie.Need-call-requires
+call-requires c κs =
+    let passed = c .before .before .before .before .before .before in
+    passed .before .sound .ensures .gives (turned-false _ (passed .if1 .left))
+
+tell-reply-requires : tie.Need-tell-reply-requires
+tell-reply-requires c κs = search needs
+
+returns-2 : tie.Need-returns-2
+returns-2 c =
+    let called = c .before .before in
+    let narrowed = called .before in
+    let passed = narrowed .before .before .before .before .before .before in
+    let asked = passed .before .before .before .before .before .before .before .args in
+    row-told (passed .before .sound .ensures) (turned-false _ (passed .if1 .left))
+    (rw (narrowed .byte-of .ensures) (narrow-call (asked .event) (asked .frame))) (called .call .ensures) (c .tell-reply .ensures)
 
 pub call-spec : {M : Type 1} → statement M
-call-spec = tie.close (tie.spec call-requires reply-in-numbers-requires returns)
+call-spec =
+    tie.close
+    (tie.spec sound-requires unsound-requires returns byte-of-requires call-requires tell-reply-requires returns-2)

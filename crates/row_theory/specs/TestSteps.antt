@@ -1,0 +1,150 @@
+-- The test of a row (RowTest), step by step as code takes it. Each step answers a part of the test, in a record that shows what
+-- it is a test of.
+use Prim.Native.Nat.{ℕ, zero, suc, _+_, _<_, _≤_, zero-le}
+use native.Mathlib.Nat.{not-suc-le-zero, le-of-suc-le-suc}
+use native.Mathlib.Numerals.{add-one}
+use native.Mathlib.Omega.{arith}
+use mathlib.Core.Path.{_≡_, refl, sym, _∙_, ap}
+use mathlib.Core.Bool.{Bool, true, false, and-false}
+use mathlib.Core.List.{List, [], _∷_}
+use lib.Dec.{leb, ltb, eqb}
+use lib.ListN.{List·getD-eq-default, length, getD, take}
+use lib.Seq.{take-all}
+use borrow.Author.Tests.{eq-eqb, ne-eqb, lt-ltb, le-ltb, le-leb, lt-leb}
+use Rattle.rules.specs.Limits.{frames}
+use Rattle.rules.specs.Limits
+use Rattle.rules.specs.Cases.{by-cases}
+use Rattle.row_theory.specs.States.{absent, busy, stateOf, heldBit, heldIn}
+use Rattle.row_theory.specs.Slots.{empty}
+use Rattle.row_theory.specs.RowTest.{nowhere, slotSound, frameSound, roomSound}
+use Rattle.row_theory.specs.StateLaws.{heldBit-small}
+
+-- what is read within a list does not depend on what is read past its end
+inside-reads : (l : List ℕ) (i d e : ℕ) → i < length l → getD l i d ≡ getD l i e
+inside-reads [] i d e inside = absurd (not-suc-le-zero inside)
+inside-reads (x ∷ l) zero d e inside = refl
+inside-reads (x ∷ l) (suc i) d e inside = inside-reads l i d e (le-of-suc-le-suc inside)
+
+-- one slot
+pub record SlotTested (slots places : List ℕ) (front slot : ℕ) (r : Bool) : Type 0 where
+  pub is : r ≡ slotSound front slots places slot
+
+module _ {slots places : List ℕ} {front slot : ℕ} (long : length slots ≡ Limits.slots) (low : slot < Limits.slots) where
+  pub slot-empty : frames ≤ getD slots slot 0 → SlotTested slots places front slot (eqb (getD slots slot 0) empty)
+  slot-empty past =
+      let same = inside-reads slots slot 0 empty (omega arith) in
+      record { is = unfold slotSound in rw (← same, le-ltb (getD slots slot 0) frames past) }
+
+  pub slot-below : getD slots slot 0 < frames → slot < front → SlotTested slots places front slot false
+  slot-below small under =
+      let same = inside-reads slots slot 0 empty (omega arith) in
+      record { is = unfold slotSound in rw (← same, lt-ltb (getD slots slot 0) frames small, lt-leb front slot under) }
+
+  pub slot-placed : getD slots slot 0 < frames → front ≤ slot →
+      SlotTested slots places front slot (eqb (getD places (getD slots slot 0) 0) slot)
+  slot-placed small above =
+      let same = inside-reads slots slot 0 empty (omega arith) in
+      record { is = unfold slotSound in rw (← same, lt-ltb (getD slots slot 0) frames small, le-leb front slot above) }
+
+-- one frame
+pub record FrameTested (slots places states : List ℕ) (frame : ℕ) (r : Bool) : Type 0 where
+  pub is : r ≡ frameSound slots places states frame
+
+module _ {slots places states : List ℕ} {frame : ℕ} where
+  pub frame-out : stateOf states frame ≡ absent → FrameTested slots places states frame (eqb (getD places frame 0) nowhere)
+  frame-out is = record { is = unfold frameSound in rw (eq-eqb (stateOf states frame) absent is) }
+
+  pub frame-unknown : busy < stateOf states frame → FrameTested slots places states frame false
+  frame-unknown past =
+      record {
+        is =
+            unfold frameSound in
+            rw (ne-eqb (stateOf states frame) absent (λ e. omega arith), lt-leb (stateOf states frame) busy past);
+      }
+
+  pub frame-nowhere : length slots ≡ Limits.slots → frame < frames → (stateOf states frame ≡ absent → ⊥) →
+      nowhere ≤ getD places frame 0 → FrameTested slots places states frame false
+  unfolding frameSound
+  frame-nowhere long small here past =
+      let none : getD slots (getD places frame 0) empty ≡ empty = List·getD-eq-default slots empty {n = (getD places frame 0)} (omega arith) in
+      record {
+        is =
+            rw (ne-eqb (stateOf states frame) absent here, none, ne-eqb empty frame (λ e. omega arith))
+            (sym (and-false (leb (stateOf states frame) busy)));
+      }
+
+  pub frame-there : length slots ≡ Limits.slots → (stateOf states frame ≡ absent → ⊥) → stateOf states frame ≤ busy →
+      getD places frame 0 < nowhere → FrameTested slots places states frame (eqb (getD slots (getD places frame 0) 0) frame)
+  unfolding frameSound
+  frame-there long here known low =
+      let same = inside-reads slots (getD places frame 0) 0 empty (omega arith) in
+      record {
+        is =
+            rw (same, ne-eqb (stateOf states frame) absent here, le-leb (stateOf states frame) busy known);
+      }
+
+-- the room
+pub record RoomTested (slots : List ℕ) (front held : ℕ) (r : Bool) : Type 0 where
+  pub is : r ≡ roomSound slots front held
+
+module _ {slots : List ℕ} {front held : ℕ} where
+  pub room-left : held < Limits.held → RoomTested slots front held true
+  room-left few =
+      record {
+        is =
+            unfold roomSound in
+            by-cases (ltb (getD slots front empty) frames) (λ e. rw (e, le-leb held Limits.held (omega arith)))
+            (λ e. rw (e, lt-ltb held Limits.held few));
+      }
+
+  pub room-past : length slots ≡ Limits.slots → Limits.held ≤ held → Limits.slots ≤ front → RoomTested slots front held false
+  unfolding roomSound
+  room-past long many past =
+      let none : getD slots front empty ≡ empty = List·getD-eq-default slots empty {n = front} (omega arith) in
+      record { is = rw (none, le-ltb held Limits.held many) }
+
+  pub room-gap : length slots ≡ Limits.slots → front < Limits.slots → Limits.held ≤ held → frames ≤ getD slots front 0 →
+      RoomTested slots front held false
+  room-gap long low many gap =
+      let same = inside-reads slots front 0 empty (omega arith) in
+      record { is = unfold roomSound in rw (← same, le-ltb (getD slots front 0) frames gap, le-ltb held Limits.held many) }
+
+  pub room-full : length slots ≡ Limits.slots → front < Limits.slots → getD slots front 0 < frames →
+      RoomTested slots front held (leb held Limits.held)
+  room-full long low full =
+      let same = inside-reads slots front 0 empty (omega arith) in
+      record { is = unfold roomSound in rw (← same, lt-ltb (getD slots front 0) frames full) }
+
+-- the frames held among the first so many
+pub record HeldTo (states : List ℕ) (i held : ℕ) : Type 0 where
+  pub most : i ≤ frames
+  pub few : held ≤ i
+  pub sum : held ≡ heldIn (take i states)
+
+held-none : (states : List ℕ) → heldIn (take 0 states) ≡ 0
+unfolding heldIn
+held-none [] = refl
+held-none (s ∷ states) = refl
+
+pub held-start : {states : List ℕ} → HeldTo states 0 0
+held-start {states} = record { most = zero-le; few = zero-le; sum = sym (held-none states) }
+
+held-take : (states : List ℕ) (i : ℕ) → i < length states →
+    heldIn (take (suc i) states) ≡ heldIn (take i states) + heldBit (getD states i 0)
+unfolding heldIn
+held-take [] i inside = absurd (not-suc-le-zero inside)
+held-take (s ∷ states) zero inside = omega arith
+held-take (s ∷ states) (suc i) inside = omega (arith, held-take states i (le-of-suc-le-suc inside))
+
+pub held-next : {states : List ℕ} {i held : ℕ} → length states ≡ frames → HeldTo states i held → i < frames →
+    HeldTo states (i + 1) (held + heldBit (getD states i 0))
+held-next {states} {i} {held} long so-far below =
+    record {
+      most = omega arith;
+      few = omega (arith, so-far .few, heldBit-small (getD states i 0));
+      sum = rw (add-one i) (omega (arith, so-far .sum, held-take states i (omega arith)));
+    }
+
+pub held-end : {states : List ℕ} {i held : ℕ} → length states ≡ frames → HeldTo states i held → frames ≤ i →
+    held ≡ heldIn states
+held-end {states} {i} long so-far ended = so-far .sum ∙ ap heldIn (take-all i states (omega arith))
