@@ -121,6 +121,20 @@ pub fn bad_page(rng: &mut Rng) -> u16 {
     rng.pick(&BAD_PAGES)
 }
 
+/// Numbers that are no frame, no bank and no policy, and no page from 1,024 on: cut to 8 or 16 bits nearly all of them would be
+/// one.
+pub const WIDE: [u32; 10] =
+    [256, 257, 256 + 5, 512 + 20, 65_536, 65_536 + 1, 65_536 + 7, (1 << 24) + 2, 1 << 31, u32::MAX];
+
+/// A number that is no page, as wide as a session may be asked for it.
+pub fn bad_page_number(rng: &mut Rng) -> u32 {
+    let wide = rng.pick(&WIDE[4..]);
+    if rng.percent(40) {
+        return wide;
+    }
+    bad_page(rng).into()
+}
+
 /// Numbers of references that are too many.
 pub const TOO_LONG: [usize; 4] = [REFERENCES + 1, REFERENCES + 2, 2 * REFERENCES, 2 * REFERENCES + 1];
 

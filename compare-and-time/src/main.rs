@@ -1,8 +1,9 @@
 //! The harness: compares the proved functions with an independent simulator, and times them beside plain Rust.
 
 mod compare;
-mod ffi;
 mod gen;
+#[path = "../../rust/musselrung/mod.rs"]
+mod musselrung;
 mod of_plain;
 mod of_proved;
 mod plain;
@@ -38,9 +39,9 @@ fn main() {
         ["compare", ..] => Wanted::from(&words[1..]).and_then(|wanted| wanted.run()),
         ["time"] => {
             let mut lines = time::whole_traces::<of_proved::Proved, of_plain::Plain>();
-            lines.extend(time::sessions::<of_proved::Session, plain::session::Session>());
-            lines.extend(time::rows::<of_proved::Row, plain::row::Row>());
-            lines.extend(time::banks::<of_proved::Banks, plain::banks::Banks>());
+            lines.extend(time::sessions::<musselrung::Session, plain::session::Session>());
+            lines.extend(time::rows::<musselrung::Row, plain::row::Row>());
+            lines.extend(time::banks::<musselrung::Banks, plain::banks::Banks>());
             print!("{}", time::table(&lines));
             Ok(())
         }

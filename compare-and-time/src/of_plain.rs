@@ -17,9 +17,15 @@ pub fn subjects() -> Vec<Subject> {
 
 pub struct Plain;
 
+/// A number as the plain versions take it; one that is too wide is past every limit.
+#[inline]
+fn byte(number: u32) -> u8 {
+    number.try_into().unwrap_or(u8::MAX)
+}
+
 impl Counts for Plain {
-    fn count(trace: &[u16], policy: u8, k: usize, table: &mut [u32]) -> Result<(), Refusal> {
-        match plain::trace::count(trace, policy, k, table) {
+    fn count(trace: &[u16], policy: u32, k: usize, table: &mut [u32]) -> Result<(), Refusal> {
+        match plain::trace::count(trace, byte(policy), k, table) {
             (0, _) => Ok(()),
             (number, place) => Err(Refusal { number, place }),
         }
@@ -27,12 +33,12 @@ impl Counts for Plain {
 }
 
 impl Sessions for plain::session::Session {
-    fn start(policy: u8, k: usize) -> Result<Self, Refusal> {
-        plain::session::Session::start(policy, k).map_err(refusal)
+    fn start(policy: u32, k: usize) -> Result<Self, Refusal> {
+        plain::session::Session::start(byte(policy), k).map_err(refusal)
     }
 
-    fn reference(&mut self, page: u16) -> Result<usize, Refusal> {
-        plain::session::Session::reference(self, page).map_err(refusal)
+    fn reference(&mut self, page: u32) -> Result<usize, Refusal> {
+        plain::session::Session::reference(self, page.try_into().unwrap_or(u16::MAX)).map_err(refusal)
     }
 
     fn list(&self) -> (usize, Vec<u16>) {
@@ -51,6 +57,10 @@ impl Sessions for plain::session::Session {
     fn misses(&self, capacity: usize) -> Result<u32, Refusal> {
         self.misses(capacity).map_err(refusal)
     }
+
+    fn sound(&self) -> bool {
+        self.sound()
+    }
 }
 
 fn answer(said: Result<usize, u8>) -> Answer {
@@ -66,12 +76,16 @@ impl Rows for plain::row::Row {
         plain::row::Row::new()
     }
 
-    fn call(&mut self, call: Call, frame: u8) -> Answer {
-        answer(plain::row::Row::call(self, call as usize, frame))
+    fn call(&mut self, call: Call, frame: u32) -> Answer {
+        answer(plain::row::Row::call(self, call as usize, byte(frame)))
     }
 
-    fn victim(&self) -> Result<u8, Refusal> {
-        plain::row::Row::victim(self).map_err(refusal)
+    fn victim(&self) -> Result<u32, Refusal> {
+        plain::row::Row::victim(self).map(u32::from).map_err(refusal)
+    }
+
+    fn sound(&self) -> bool {
+        self.sound()
     }
 
     fn memory(&self) -> Memory {
@@ -84,12 +98,16 @@ impl Rows for plain::banks::Banks {
         plain::banks::Banks::new()
     }
 
-    fn call(&mut self, call: Call, frame: u8) -> Answer {
-        answer(plain::banks::Banks::call(self, call as usize, frame))
+    fn call(&mut self, call: Call, frame: u32) -> Answer {
+        answer(plain::banks::Banks::call(self, call as usize, byte(frame)))
     }
 
-    fn victim(&self) -> Result<u8, Refusal> {
-        plain::banks::Banks::victim(self).map_err(refusal)
+    fn victim(&self) -> Result<u32, Refusal> {
+        plain::banks::Banks::victim(self).map(u32::from).map_err(refusal)
+    }
+
+    fn sound(&self) -> bool {
+        self.sound()
     }
 
     fn memory(&self) -> Memory {
@@ -98,7 +116,8 @@ impl Rows for plain::banks::Banks {
 }
 
 impl Banks for plain::banks::Banks {
-    fn bank_call(&mut self, call: BankCall, bank: u8) -> Answer {
+    fn bank_call(&mut self, call: BankCall, bank: u32) -> Answer {
+        let bank = byte(bank);
         let said = match call {
             BankCall::Close => self.close(bank),
             BankCall::Cut => self.cut(bank),

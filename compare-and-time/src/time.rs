@@ -83,8 +83,8 @@ pub fn whole_traces<A: Counts, B: Counts>() -> Vec<Line> {
     for (policy, name) in ["LRU", "LFU", "OPT"].into_iter().enumerate() {
         for (kind, trace) in traces() {
             let (mut ours, mut theirs) = ([0; LIMIT], [0; LIMIT]);
-            let mut a = || A::count(black_box(&trace), policy as u8, LIMIT, black_box(&mut ours)).unwrap();
-            let mut b = || B::count(black_box(&trace), policy as u8, LIMIT, black_box(&mut theirs)).unwrap();
+            let mut a = || A::count(black_box(&trace), policy as u32, LIMIT, black_box(&mut ours)).unwrap();
+            let mut b = || B::count(black_box(&trace), policy as u32, LIMIT, black_box(&mut theirs)).unwrap();
             lines.push(race(format!("whole trace, {name}, {kind}"), 1.2, trace.len(), &mut a, &mut b));
             assert_eq!(ours, theirs, "the two sides differ on {name}, {kind}");
         }
@@ -98,26 +98,26 @@ pub fn sessions<A: Sessions, B: Sessions>() -> Vec<Line> {
     let mut lines = Vec::new();
     for (policy, name) in ["LRU", "LFU"].into_iter().enumerate() {
         for (kind, trace) in traces() {
-            let mut a = || references::<A>(policy as u8, &trace);
-            let mut b = || references::<B>(policy as u8, &trace);
+            let mut a = || references::<A>(policy as u32, &trace);
+            let mut b = || references::<B>(policy as u32, &trace);
             lines.push(race(format!("session's reference, {name}, {kind}"), 2.0, trace.len(), &mut a, &mut b));
         }
     }
     lines
 }
 
-fn references<S: Sessions>(policy: u8, trace: &[u16]) {
+fn references<S: Sessions>(policy: u32, trace: &[u16]) {
     let mut session = S::start(policy, LIMIT).unwrap();
     let mut sum = 0;
     for &page in black_box(trace) {
-        sum += session.reference(page).unwrap();
+        sum += session.reference(page.into()).unwrap();
     }
     black_box(sum);
 }
 
 /// The calls that a working row gets: mostly touches, a put and a drop now and then, transfers.
-fn any_call(rng: &mut Rng) -> (Call, u8) {
-    (rng.pick_by(&CALLS, &[10, 60, 10, 11, 9]), rng.below(40) as u8)
+fn any_call(rng: &mut Rng) -> (Call, u32) {
+    (rng.pick_by(&CALLS, &[10, 60, 10, 11, 9]), rng.below(40) as u32)
 }
 
 /// Calls that are drawn so, nearly all of them accepted: of the refused ones one in fifty is kept.
@@ -147,7 +147,7 @@ pub fn rows<A: Rows, B: Rows>() -> Vec<Line> {
 }
 
 #[inline]
-fn call<R: Rows>(row: &mut R, (call, frame): (Call, u8)) -> Answer {
+fn call<R: Rows>(row: &mut R, (call, frame): (Call, u32)) -> Answer {
     row.call(call, frame)
 }
 

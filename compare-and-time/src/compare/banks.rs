@@ -2,7 +2,7 @@
 //! memory then, the gates with it.
 
 use super::pair::Pair;
-use super::row::{self, drawn_length, BAD_FRAMES, BUSY, MIXES};
+use super::row::{self, drawn_length, numbers, BAD_FRAMES, BUSY, MIXES};
 use super::{Outcome, Subject, Tally};
 use crate::rng::Rng;
 use crate::simulator::banks::{bank_of, Asked, BankCall, BankState, BANK_CALLS};
@@ -19,7 +19,7 @@ pub fn subjects<L: Banks>() -> Vec<Subject> {
     let sets: Vec<Vec<u8>> = row::SETS.iter().chain(&SETS).map(|set| set.to_vec()).collect();
     vec![
         Subject { name: "banks", short: 5_000, full: 100_000, case: drawn_case::<L>, sets: sets.clone() },
-        Subject::every("bank-calls", STATES + usize::from(FRAMES), call_case::<L>, sets),
+        Subject::every("bank-calls", STATES + FRAMES as usize, call_case::<L>, sets),
     ]
 }
 
@@ -30,24 +30,24 @@ const BANK_MIXES: [[usize; 3]; 4] = [[1, 1, 1], [1, 1, 4], [2, 4, 1], [4, 1, 2]]
 const CALM: [usize; 5] = [50, 30, 0, 20, 0];
 
 /// How often each call comes: bank calls in 100 calls, and the shares within them and within the frame calls.
-struct Mix {
+pub struct Mix {
     bank_calls: usize,
     banks: [usize; 3],
     frames: [usize; 5],
 }
 
 impl Mix {
-    fn drawn(rng: &mut Rng) -> Mix {
+    pub fn drawn(rng: &mut Rng) -> Mix {
         let frames = if rng.percent(30) { CALM } else { rng.pick(&MIXES) };
         Mix { bank_calls: rng.pick(&[1, 3, 10, 40]), banks: rng.pick(&BANK_MIXES), frames }
     }
 
     /// A call on any bank, or on one of these frames; on a number that is none now and then. The front is seldom at 0,
     /// so bank calls come more often then.
-    fn call(&self, rng: &mut Rng, frames: &[u8], front: usize) -> Asked {
+    pub fn call(&self, rng: &mut Rng, frames: &[u32], front: usize) -> Asked {
         let bad = rng.percent(2);
         if rng.percent(if front == 0 { 50 } else { self.bank_calls }) {
-            let bank = if bad { rng.pick(&BAD_BANKS) } else { rng.below(BANKS.into()) as u8 };
+            let bank = if bad { rng.pick(&BAD_BANKS) } else { rng.below(BANKS as usize) as u32 };
             return Asked::Bank(rng.pick_by(&BANK_CALLS, &self.banks), bank);
         }
         let frame = if bad { rng.pick(&BAD_FRAMES) } else { rng.pick(frames) };
@@ -56,14 +56,14 @@ impl Mix {
 }
 
 /// Numbers that are no bank, some of them frames.
-const BAD_BANKS: [u8; 7] = [BANKS, BANKS + 1, IN_BANK, FRAMES, 128, 253, 255];
+const BAD_BANKS: [u32; 10] = [BANKS, BANKS + 1, IN_BANK, FRAMES, 128, 255, 256, 256 + 1, 65_536 + 3, u32::MAX];
 
 /// The frames that a sequence is about: within one bank, side by side over several, or spread over all.
-fn drawn_frames(rng: &mut Rng) -> Vec<u8> {
-    let (bank, frames) = (usize::from(IN_BANK), usize::from(FRAMES));
+pub fn drawn_frames(rng: &mut Rng) -> Vec<u32> {
+    let (bank, frames) = (IN_BANK as usize, FRAMES as usize);
     let count = rng.pick(&[1, 4, bank, 20, HELD, HELD + 1, 40, frames]);
-    let (from, apart) = (bank * rng.below(BANKS.into()), rng.pick(&[1, 1, 5]));
-    (0..count).map(|i| ((from + i * apart) % frames) as u8).collect()
+    let (from, apart) = (bank * rng.below(BANKS as usize), rng.pick(&[1, 1, 5]));
+    (0..count).map(|i| ((from + i * apart) % frames) as u32).collect()
 }
 
 /// Long random sequences of calls.
@@ -82,21 +82,21 @@ fn drawn_case<L: Banks>(_: u64, rng: &mut Rng, tally: &mut Tally) -> Outcome {
 
 const BANK_STATES: [BankState; 3] = [BankState::Open, BankState::Closing, BankState::Off];
 /// All four banks in each state.
-const ALL_BANK_STATES: usize = BANK_STATES.len().pow(BANKS as u32);
+const ALL_BANK_STATES: usize = BANK_STATES.len().pow(BANKS);
 /// Those, with no frame, one, all that can be held then but one, or all, of which none, every second or all are busy,
 /// the front at 0 or above it.
 const STATES: usize = ALL_BANK_STATES * 4 * BUSY.len() * 2;
 
 /// So many frames, in turn from each of these banks.
-fn spread(banks: &[u8], count: usize) -> Vec<u8> {
-    (0..count).map(|i| IN_BANK * banks[i % banks.len()] + (i / banks.len()) as u8).collect()
+fn spread(banks: &[u32], count: usize) -> Vec<u32> {
+    (0..count).map(|i| IN_BANK * banks[i % banks.len()] + (i / banks.len()) as u32).collect()
 }
 
 fn state_of<L: Banks>(number: usize, tally: &mut Tally) -> Result<Pair<L>, String> {
     let (states, number) = (number % ALL_BANK_STATES, number / ALL_BANK_STATES);
-    let state = |bank: u8| BANK_STATES[states / BANK_STATES.len().pow(bank.into()) % BANK_STATES.len()];
-    let (off, on): (Vec<u8>, Vec<u8>) = (0..BANKS).partition(|&bank| state(bank) == BankState::Off);
-    let most = HELD.min(on.len() * usize::from(IN_BANK));
+    let state = |bank: u32| BANK_STATES[states / BANK_STATES.len().pow(bank) % BANK_STATES.len()];
+    let (off, on): (Vec<u32>, Vec<u32>) = (0..BANKS).partition(|&bank| state(bank) == BankState::Off);
+    let most = HELD.min(on.len() * IN_BANK as usize);
     let held = spread(&on, [0, 1.min(most), most.saturating_sub(1), most][number % 4]);
     let front_at_0 = number / 12 == 1;
     let mut pair = Pair::<L>::fresh(tally)?;
@@ -121,10 +121,10 @@ fn state_of<L: Banks>(number: usize, tally: &mut Tally) -> Result<Pair<L>, Strin
 }
 
 /// A full bank that is closing, where this frame alone is busy.
-fn one_busy<L: Banks>(frame: u8, tally: &mut Tally) -> Result<Pair<L>, String> {
+fn one_busy<L: Banks>(frame: u32, tally: &mut Tally) -> Result<Pair<L>, String> {
     let bank = bank_of(frame);
     let mut pair = Pair::<L>::fresh(tally)?;
-    pair.hold(&spread(&[bank], IN_BANK.into()), BUSY[0], tally)?;
+    pair.hold(&spread(&[bank], IN_BANK as usize), BUSY[0], tally)?;
     pair.ask(Asked::Frame(Call::Start, frame), tally)?;
     pair.ask(Asked::Bank(BankCall::Close, bank), tally)?;
     Ok(pair)
@@ -133,8 +133,8 @@ fn one_busy<L: Banks>(frame: u8, tally: &mut Tally) -> Result<Pair<L>, String> {
 /// Every call on every number, in one of those states; and with each frame as the only busy one.
 fn call_case<L: Banks>(case: u64, _: &mut Rng, tally: &mut Tally) -> Outcome {
     let case = case as usize;
-    let pair: Pair<L> = if case < STATES { state_of(case, tally)? } else { one_busy((case - STATES) as u8, tally)? };
-    for number in 0..=255 {
+    let pair: Pair<L> = if case < STATES { state_of(case, tally)? } else { one_busy((case - STATES) as u32, tally)? };
+    for number in numbers() {
         let frame_calls = CALLS.map(|call| Asked::Frame(call, number));
         let bank_calls = BANK_CALLS.map(|call| Asked::Bank(call, number));
         for asked in frame_calls.into_iter().chain(bank_calls) {

@@ -16,11 +16,11 @@ pub struct Faults {
 
 pub struct Call {
     pub trace: Vec<u16>,
-    pub policies: Vec<u8>,
+    pub policies: Vec<u32>,
     pub k: usize,
 }
 
-const BAD_POLICIES: [u8; 4] = [3, 4, 128, 255];
+const BAD_POLICIES: [u32; 8] = [3, 4, 128, 255, 256, 256 + 1, 65_536 + 2, u32::MAX];
 
 /// A call of any kind, drawn.
 pub fn drawn(rng: &mut Rng, faults: Faults) -> Call {

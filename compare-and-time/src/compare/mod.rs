@@ -7,6 +7,7 @@ pub mod faults;
 pub mod file;
 pub mod file_bytes;
 pub mod list;
+pub mod misuse;
 pub mod pair;
 pub mod row;
 pub mod session;

@@ -5,8 +5,8 @@ use super::{must, same, Outcome, Tally};
 use crate::simulator::banks::{Asked, Banks};
 use crate::simulator::row::Call;
 use crate::simulator::slots::Slots;
-use crate::simulator::{FRAMES, SLOTS};
-use crate::subject::{self, Answer, Memory, Rows};
+use crate::simulator::memory;
+use crate::subject::{self, Answer, Rows};
 use std::fmt::Display;
 
 /// The simulator's row is one under banks, which stay open where the library has none; beside it the slots that the
@@ -29,7 +29,7 @@ impl<L: Rows> Pair<L> {
         self.want.row.front
     }
 
-    pub fn call(&mut self, call: Call, frame: u8, tally: &mut Tally) -> Outcome {
+    pub fn call(&mut self, call: Call, frame: u32, tally: &mut Tally) -> Outcome {
         let answer = self.got.call(call, frame);
         self.compare(Asked::Frame(call, frame), answer, tally)
     }
@@ -51,29 +51,13 @@ impl<L: Rows> Pair<L> {
         let victim = self.want.victim();
         tally.note(victim.err().as_slice());
         same(format_args!("the victim after {after}"), self.got.victim(), victim)?;
-        same(format_args!("the memory after {after}, and asking for a victim"), self.got.memory(), self.expected())
-    }
-
-    fn expected(&self) -> Memory {
-        let mut memory = Memory {
-            slots: [FRAMES; SLOTS],
-            places: [SLOTS as u8; FRAMES as usize],
-            states: [0; FRAMES as usize],
-            front: self.front(),
-            held: self.want.row.held().count(),
-        };
-        for (slot, frame) in self.slots.slots.iter().enumerate().filter_map(|(i, frame)| Some((i, (*frame)?))) {
-            memory.slots[slot] = frame;
-            memory.places[usize::from(frame)] = slot as u8;
-        }
-        for (frame, state) in self.want.row.held() {
-            memory.states[usize::from(frame)] = state as u8;
-        }
-        memory
+        must(self.got.sound(), "what calls make of a fresh row is sound")?;
+        let expected = memory::of_row(&self.want.row, &self.slots);
+        same(format_args!("the memory after {after}, and asking for a victim"), self.got.memory(), expected)
     }
 
     /// Puts these frames, and starts a transfer on those that are to be busy by their index here.
-    pub fn hold(&mut self, frames: &[u8], busy: fn(usize) -> bool, tally: &mut Tally) -> Outcome {
+    pub fn hold(&mut self, frames: &[u32], busy: fn(usize) -> bool, tally: &mut Tally) -> Outcome {
         for (i, &frame) in frames.iter().enumerate() {
             self.call(Call::Put, frame, tally)?;
             if busy(i) {
@@ -84,7 +68,7 @@ impl<L: Rows> Pair<L> {
     }
 
     /// Touches these frames, if there are any, until the front is 0.
-    pub fn front_to_0(&mut self, frames: &[u8], tally: &mut Tally) -> Outcome {
+    pub fn front_to_0(&mut self, frames: &[u32], tally: &mut Tally) -> Outcome {
         while !frames.is_empty() && self.front() > 0 {
             self.call(Call::Touch, frames[self.front() % frames.len()], tally)?;
         }

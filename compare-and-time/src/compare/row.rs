@@ -2,6 +2,7 @@
 
 use super::pair::Pair;
 use super::{Outcome, Subject, Tally};
+use crate::gen::WIDE;
 use crate::rng::Rng;
 use crate::simulator::row::CALLS;
 use crate::simulator::{FRAMES, HELD};
@@ -25,7 +26,7 @@ pub const MIXES: [[usize; 5]; 5] =
     [[20, 20, 20, 20, 20], [10, 80, 4, 4, 2], [60, 20, 10, 8, 2], [15, 10, 50, 20, 5], [40, 10, 5, 5, 40]];
 
 /// Numbers that are no frame.
-pub const BAD_FRAMES: [u8; 5] = [FRAMES, FRAMES + 1, 128, 200, 255];
+pub const BAD_FRAMES: [u32; 8] = [FRAMES, FRAMES + 1, 128, 255, 256, 256 + 5, 65_536 + 7, u32::MAX];
 
 /// How many calls a random sequence has: long enough for several squeezes mostly, for many now and then.
 pub fn drawn_length(rng: &mut Rng) -> usize {
@@ -38,7 +39,7 @@ pub fn drawn_length(rng: &mut Rng) -> usize {
 /// Long random sequences of calls.
 fn drawn_case<L: Rows>(_: u64, rng: &mut Rng, tally: &mut Tally) -> Outcome {
     let mut pair = Pair::<L>::fresh(tally)?;
-    let frames = rng.pick(&[1, 2, 5, 20, HELD, HELD + 1, 40, usize::from(FRAMES)]);
+    let frames = rng.pick(&[1, 2, 5, 20, HELD, HELD + 1, 40, FRAMES as usize]);
     let length = drawn_length(rng);
     let mut mix = rng.pick(&MIXES);
     for i in 0..length {
@@ -46,7 +47,7 @@ fn drawn_case<L: Rows>(_: u64, rng: &mut Rng, tally: &mut Tally) -> Outcome {
             mix = rng.pick(&MIXES);
         }
         let bad = rng.pick(&BAD_FRAMES);
-        let frame = if rng.percent(2) { bad } else { rng.below(frames) as u8 };
+        let frame = if rng.percent(2) { bad } else { rng.below(frames) as u32 };
         let call = rng.pick_by(&CALLS, &mix);
         pair.call(call, frame, tally).map_err(|fault| format!("call {i}: {fault}"))?;
     }
@@ -58,10 +59,23 @@ pub const BUSY: [fn(usize) -> bool; 3] = [|_| false, |i| i % 2 == 1, |_| true];
 
 /// Rows with no frame, one, all that can be held but one, or all, each with those busy, the front at 0 or above it.
 const ROWS: usize = 4 * BUSY.len() * 2;
-const NUMBERS: usize = 256;
+/// All numbers of 8 bits, and wide ones.
+const NUMBERS: usize = 256 + WIDE.len();
+
+pub fn number(at: usize) -> u32 {
+    if at < 256 {
+        at as u32
+    } else {
+        WIDE[at - 256]
+    }
+}
+
+pub fn numbers() -> impl Iterator<Item = u32> {
+    (0..NUMBERS).map(number)
+}
 
 fn row_of<L: Rows>(number: usize, tally: &mut Tally) -> Result<Pair<L>, String> {
-    let frames: Vec<u8> = (0..[0, 1, HELD - 1, HELD][number % 4] as u8).collect();
+    let frames: Vec<u32> = (0..[0, 1, HELD - 1, HELD][number % 4] as u32).collect();
     let mut pair = Pair::<L>::fresh(tally)?;
     pair.hold(&frames, BUSY[number / 4 % 3], tally)?;
     if number / 12 == 1 {
@@ -72,7 +86,7 @@ fn row_of<L: Rows>(number: usize, tally: &mut Tally) -> Result<Pair<L>, String> 
 
 /// Every call on every number, in each of those rows.
 fn call_case<L: Rows>(case: u64, _: &mut Rng, tally: &mut Tally) -> Outcome {
-    let (frame, case) = ((case as usize % NUMBERS) as u8, case as usize / NUMBERS);
+    let (frame, case) = (number(case as usize % NUMBERS), case as usize / NUMBERS);
     let (call, row) = (CALLS[case % CALLS.len()], case / CALLS.len());
     row_of::<L>(row, tally)?.call(call, frame, tally)
 }

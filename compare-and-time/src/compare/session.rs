@@ -1,5 +1,6 @@
 //! Sessions: the answer to each reference, everything that can be read after it, and the memory that a refusal leaves.
 
+use super::row::number;
 use super::{all_sets, must, same, same_list, Outcome, Subject, Tally};
 use crate::gen;
 use crate::rng::Rng;
@@ -21,7 +22,7 @@ pub fn subjects<L: Sessions>() -> Vec<Subject> {
 
 /// A session of the library beside one of the simulator.
 struct Pair<L> {
-    policy: u8,
+    policy: u32,
     k: usize,
     got: L,
     want: Session,
@@ -29,7 +30,7 @@ struct Pair<L> {
 
 impl<L: Sessions> Pair<L> {
     /// None if the start is refused.
-    fn start(policy: u8, k: usize, tally: &mut Tally) -> Result<Option<Pair<L>>, String> {
+    fn start(policy: u32, k: usize, tally: &mut Tally) -> Result<Option<Pair<L>>, String> {
         tally.note(&start_faults(policy, k));
         match (L::start(policy, k), start(policy, k)) {
             (Ok(got), Ok(want)) => Ok(Some(Pair { policy, k, got, want })),
@@ -40,7 +41,7 @@ impl<L: Sessions> Pair<L> {
         }
     }
 
-    fn refer(&mut self, page: u16, tally: &mut Tally) -> Outcome {
+    fn refer(&mut self, page: u32, tally: &mut Tally) -> Outcome {
         let faults = self.want.reference_faults(page);
         let before = if faults.is_empty() { None } else { Some(self.got.clone()) };
         tally.note(&faults);
@@ -51,6 +52,7 @@ impl<L: Sessions> Pair<L> {
 
     /// The list, the references accepted, and the hits and misses at these capacities.
     fn read(&self, capacities: &[usize], tally: &mut Tally) -> Outcome {
+        must(self.got.sound(), "what references make of a session is sound")?;
         same_list(self.got.list(), self.k, &self.want.caches)?;
         same("references accepted", self.got.accepted(), self.want.accepted())?;
         for &capacity in capacities {
@@ -77,7 +79,7 @@ impl<L: Sessions> Pair<L> {
 /// Random histories, bad references among them, read at random moments.
 fn drawn_case<L: Sessions>(_: u64, rng: &mut Rng, tally: &mut Tally) -> Outcome {
     let bits = if rng.percent(80) { 0 } else { rng.below(4) };
-    let policy = if bits & 1 == 1 { rng.pick(&[2, 2, 3, 255]) } else { rng.below(2) as u8 };
+    let policy = if bits & 1 == 1 { rng.pick(&[2, 2, 3, 255, 256, 256 + 1, 65_536 + 1, u32::MAX]) } else { rng.below(2) as u32 };
     let k = if bits & 2 == 2 { gen::bad_limit(rng) } else { gen::limit(rng) };
     let Some(mut pair) = Pair::<L>::start(policy, k, tally)? else { return Ok(()) };
     // some sessions go on after they are full
@@ -86,7 +88,7 @@ fn drawn_case<L: Sessions>(_: u64, rng: &mut Rng, tally: &mut Tally) -> Outcome 
     pair.read_some(rng, tally)?;
     for (i, valid) in gen::any_trace(rng, length).into_iter().enumerate() {
         let bad = rng.percent(often) || i > REFERENCES && i % 2 == 0;
-        pair.refer(if bad { gen::bad_page(rng) } else { valid }, tally)?;
+        pair.refer(if bad { gen::bad_page_number(rng) } else { valid.into() }, tally)?;
         if rng.percent(3) {
             pair.read_some(rng, tally)?;
         }
@@ -94,18 +96,19 @@ fn drawn_case<L: Sessions>(_: u64, rng: &mut Rng, tally: &mut Tally) -> Outcome 
     pair.read_some(rng, tally)
 }
 
-const POLICIES: usize = 256;
+/// All policy numbers of 8 bits, and wide ones.
+const POLICIES: usize = 256 + gen::WIDE.len();
 /// Every limit up to the largest, then those that are none.
 const LIMITS: usize = CAPACITIES + gen::BAD_LIMITS.len();
 
 /// Every policy number with every limit; a session that starts is read whole after each of some references.
 fn start_case<L: Sessions>(case: u64, rng: &mut Rng, tally: &mut Tally) -> Outcome {
-    let (policy, at) = ((case as usize % POLICIES) as u8, case as usize / POLICIES);
+    let (policy, at) = (number(case as usize % POLICIES), case as usize / POLICIES);
     let k = if at < CAPACITIES { at + 1 } else { gen::BAD_LIMITS[at - CAPACITIES] };
     let Some(mut pair) = Pair::<L>::start(policy, k, tally)? else { return Ok(()) };
     pair.read_all(tally)?;
     for page in gen::any_trace(rng, 1 + k * 7 % 60) {
-        pair.refer(if rng.percent(10) { gen::bad_page(rng) } else { page }, tally)?;
+        pair.refer(if rng.percent(10) { gen::bad_page_number(rng) } else { page.into() }, tally)?;
         pair.read_all(tally)?;
     }
     Ok(())
@@ -116,14 +119,15 @@ const FULL: [usize; 5] = [1, 2, 3, CAPACITIES - 1, CAPACITIES];
 
 /// A session that is filled, and then asked for pages and for numbers that are none.
 fn full_case<L: Sessions>(case: u64, rng: &mut Rng, tally: &mut Tally) -> Outcome {
-    let (policy, k) = ((case as usize / FULL.len()) as u8, FULL[case as usize % FULL.len()]);
+    let (policy, k) = ((case as usize / FULL.len()) as u32, FULL[case as usize % FULL.len()]);
     let mut pair = Pair::<L>::start(policy, k, tally)?.ok_or("no session")?;
-    pair.refer(PAGES, tally)?;
+    pair.refer(PAGES.into(), tally)?;
     let pages = gen::any_trace(rng, REFERENCES);
     for &page in &pages {
-        pair.refer(page, tally)?;
+        pair.refer(page.into(), tally)?;
     }
-    for page in [pages[0], pages[REFERENCES - 1], 0, PAGES - 1, PAGES, u16::MAX] {
+    let pages = [pages[0], pages[REFERENCES - 1], 0, PAGES - 1, PAGES, u16::MAX].map(u32::from);
+    for page in pages.into_iter().chain(gen::WIDE) {
         pair.read_all(tally)?;
         pair.refer(page, tally)?;
     }

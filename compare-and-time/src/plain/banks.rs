@@ -1,4 +1,4 @@
-//! A row under banks that changes in place.
+//! A row under banks that changes in place. As the library does, each call first tests what stands there.
 
 use super::row::{Row, PUT, START};
 use crate::subject::Memory;
@@ -24,6 +24,7 @@ impl Banks {
     /// The slots examined, or the number of the refusal.
     #[inline(never)]
     pub fn call(&mut self, call: usize, frame: u8) -> Result<usize, u8> {
+        self.test()?;
         if call == PUT || call == START {
             // a number that is no frame has no bank, and the row refuses it
             if self.states.get(usize::from(frame) / IN_BANK).is_some_and(|&state| state != OPEN) {
@@ -35,6 +36,7 @@ impl Banks {
 
     #[inline(never)]
     pub fn close(&mut self, bank: u8) -> Result<(), u8> {
+        self.test()?;
         let state = self.state(bank)?;
         if *state != OPEN {
             return Err(30);
@@ -45,6 +47,7 @@ impl Banks {
 
     #[inline(never)]
     pub fn cut(&mut self, bank: u8) -> Result<(), u8> {
+        self.test()?;
         if *self.state(bank)? != CLOSING {
             return Err(30);
         }
@@ -60,12 +63,34 @@ impl Banks {
 
     #[inline(never)]
     pub fn open(&mut self, bank: u8) -> Result<(), u8> {
+        self.test()?;
         let state = self.state(bank)?;
         if *state == OPEN {
             return Err(30);
         }
         *state = OPEN;
         Ok(())
+    }
+
+    /// Can fresh banks and calls give what stands here?
+    #[inline(never)]
+    pub fn sound(&self) -> bool {
+        self.is_sound()
+    }
+
+    #[inline(always)]
+    fn is_sound(&self) -> bool {
+        let empty = |bank: usize| !self.row.any_held(bank * IN_BANK..(bank + 1) * IN_BANK);
+        self.row.is_sound() && (0..BANKS).all(|bank| self.states[bank] <= CLOSING && (self.states[bank] != OFF || empty(bank)))
+    }
+
+    #[inline(always)]
+    fn test(&self) -> Result<(), u8> {
+        if self.is_sound() {
+            Ok(())
+        } else {
+            Err(40)
+        }
     }
 
     fn state(&mut self, bank: u8) -> Result<&mut u8, u8> {
@@ -75,6 +100,7 @@ impl Banks {
     /// The idle frame of an open bank that is nearest the old end, or the number of the refusal.
     #[inline(never)]
     pub fn victim(&self) -> Result<u8, u8> {
+        self.test()?;
         self.row.victim_among(|frame| self.states[usize::from(frame) / IN_BANK] == OPEN)
     }
 

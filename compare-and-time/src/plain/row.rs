@@ -1,4 +1,4 @@
-//! A frame row that changes in place.
+//! A frame row that changes in place. As the library does, each call first tests what stands there.
 
 use crate::subject::Memory;
 use std::ops::Range;
@@ -23,7 +23,7 @@ const NEXT: [[u8; 5]; 3] = [[IDLE, 22, 22, 22, 22], [21, IDLE, BUSY, 24, ABSENT]
 #[derive(Clone)]
 pub struct Row {
     slots: [u8; SLOTS],
-    /// Which slot a held frame has.
+    /// Which slot a held frame has; an absent one has none.
     places: [u8; 64],
     states: [u8; 64],
     front: usize,
@@ -32,16 +32,48 @@ pub struct Row {
 
 impl Row {
     pub fn new() -> Row {
-        Row { slots: [EMPTY; SLOTS], places: [0; 64], states: [ABSENT; 64], front: SLOTS, held: 0 }
+        Row { slots: [EMPTY; SLOTS], places: [EMPTY; 64], states: [ABSENT; 64], front: SLOTS, held: 0 }
     }
 
     /// The slots examined, or the number of the refusal.
     #[inline(never)]
     pub fn call(&mut self, call: usize, frame: u8) -> Result<usize, u8> {
+        if !self.is_sound() {
+            return Err(40);
+        }
         self.step(call, frame)
     }
 
-    /// The same, made part of the calls of what stands on the row.
+    /// Can a fresh row and calls give what stands here?
+    #[inline(never)]
+    pub fn sound(&self) -> bool {
+        self.is_sound()
+    }
+
+    /// The same, made part of the calls.
+    #[inline(always)]
+    pub fn is_sound(&self) -> bool {
+        let Row { slots, places, states, front, held } = self;
+        if *front > SLOTS || *held > HELD {
+            return false;
+        }
+        let (below, above) = slots.split_at(*front);
+        if below.iter().any(|&slot| slot != EMPTY) || above.iter().any(|&slot| slot > EMPTY) {
+            return false;
+        }
+        let filled = above.iter().filter(|&&slot| slot != EMPTY).count();
+        let stands = |frame: usize| match states[frame] {
+            ABSENT => places[frame] == EMPTY,
+            IDLE | BUSY => slots.get(usize::from(places[frame])).is_some_and(|&slot| usize::from(slot) == frame),
+            _ => false,
+        };
+        (0..states.len()).all(stands)
+            && states.iter().filter(|&&state| state != ABSENT).count() == *held
+            && filled == *held
+            && (*held < HELD || above.first() != Some(&EMPTY))
+    }
+
+    /// A call on a row that is sound, made part of the calls of what stands on the row.
     #[inline(always)]
     pub fn step(&mut self, call: usize, frame: u8) -> Result<usize, u8> {
         if frame >= FRAMES {
@@ -75,7 +107,8 @@ impl Row {
     }
 
     fn empty(&mut self, frame: u8) {
-        self.slots[usize::from(self.places[usize::from(frame)])] = EMPTY;
+        let place = std::mem::replace(&mut self.places[usize::from(frame)], EMPTY);
+        self.slots[usize::from(place)] = EMPTY;
     }
 
     fn place(&mut self, frame: u8) -> usize {
@@ -110,6 +143,9 @@ impl Row {
     /// The idle frame nearest the old end, or the number of the refusal.
     #[inline(never)]
     pub fn victim(&self) -> Result<u8, u8> {
+        if !self.is_sound() {
+            return Err(40);
+        }
         self.victim_among(|_| true)
     }
 
@@ -132,19 +168,22 @@ impl Row {
 
     /// Those of these frames that are held leave together.
     pub fn leave(&mut self, frames: Range<usize>) {
-        for (state, place) in self.states[frames.clone()].iter_mut().zip(&self.places[frames]) {
+        for (state, place) in self.states[frames.clone()].iter_mut().zip(&mut self.places[frames]) {
             if *state != ABSENT {
                 *state = ABSENT;
                 self.slots[usize::from(*place)] = EMPTY;
+                *place = EMPTY;
                 self.held -= 1;
             }
         }
     }
 
-    /// The slot of an absent frame is left as it was, and shown as none.
+    pub fn any_held(&self, frames: Range<usize>) -> bool {
+        self.states[frames].iter().any(|&state| state != ABSENT)
+    }
+
     pub fn memory(&self) -> Memory {
-        let Row { slots, mut places, states, front, held } = self.clone();
-        (0..places.len()).filter(|&i| states[i] == ABSENT).for_each(|i| places[i] = EMPTY);
-        Memory { slots, places, states, front, held }
+        let Row { slots, places, states, front, held } = self.clone();
+        Memory { slots, places, states, front: front as u64, held: held as u64 }
     }
 }

@@ -1,4 +1,4 @@
-//! A session that changes in place.
+//! A session that changes in place. As the library does, each call first tests the numbers that it goes by.
 
 use super::walk::{lowest, page_of, Entries, Pages, LIMIT, PAGES, RANK};
 
@@ -31,6 +31,9 @@ impl Session {
     /// The depth, or 0.
     #[inline(never)]
     pub fn reference(&mut self, page: u16) -> Result<usize, u8> {
+        if !self.fits() {
+            return Err(40);
+        }
         if self.accepted >= 4096 {
             return Err(6);
         }
@@ -61,7 +64,48 @@ impl Session {
         self.accepted
     }
 
+    fn length(&self) -> usize {
+        match &self.list {
+            List::Lru(pages) => pages.length,
+            List::Lfu(list, _) => list.length,
+        }
+    }
+
+    #[inline]
+    fn fits(&self) -> bool {
+        1 <= self.limit && self.limit <= LIMIT && self.length() <= self.limit && self.accepted <= 4096
+    }
+
+    fn adds_up(&self) -> bool {
+        self.depths.iter().map(|&times| u64::from(times)).sum::<u64>() == self.accepted as u64
+    }
+
+    /// Is all of it such as a start and references give?
+    #[inline(never)]
+    pub fn sound(&self) -> bool {
+        if !self.fits() || !self.adds_up() {
+            return false;
+        }
+        let mut seen = [false; PAGES];
+        let mut new = |page: u16| seen.get_mut(usize::from(page)).is_some_and(|seen| !std::mem::replace(seen, true));
+        match &self.list {
+            List::Lru(pages) => {
+                let (list, behind) = pages.places.split_at(pages.length);
+                list.iter().all(|&page| new(page)) && behind.iter().all(|&page| page == 0)
+            }
+            List::Lfu(list, entries) => {
+                let (list, behind) = list.places.split_at(list.length);
+                list.iter().all(|&entry| new(page_of(entry)) && entry == entries[usize::from(page_of(entry))])
+                    && behind.iter().all(|&entry| entry == 0)
+                    && entries.iter().map(|entry| (entry / RANK) as usize).sum::<usize>() == self.accepted
+            }
+        }
+    }
+
     pub fn hits(&self, capacity: usize) -> Result<u32, u8> {
+        if !self.fits() || !self.adds_up() {
+            return Err(40);
+        }
         if capacity < 1 || capacity > self.limit {
             return Err(7);
         }

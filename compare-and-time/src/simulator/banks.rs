@@ -17,12 +17,12 @@ pub const BANK_CALLS: [BankCall; 3] = [BankCall::Close, BankCall::Cut, BankCall:
 /// One of the eight calls, and the number of a frame or of a bank.
 #[derive(Clone, Copy, Debug)]
 pub enum Asked {
-    Frame(Call, u8),
-    Bank(BankCall, u8),
+    Frame(Call, u32),
+    Bank(BankCall, u32),
 }
 
-impl From<(Call, u8)> for Asked {
-    fn from((call, frame): (Call, u8)) -> Asked {
+impl From<(Call, u32)> for Asked {
+    fn from((call, frame): (Call, u32)) -> Asked {
         Asked::Frame(call, frame)
     }
 }
@@ -44,7 +44,7 @@ pub enum BankState {
 }
 
 /// Rule L8, of a number that is a frame.
-pub fn bank_of(frame: u8) -> u8 {
+pub fn bank_of(frame: u32) -> u32 {
     frame / IN_BANK
 }
 
@@ -60,12 +60,17 @@ impl Banks {
         Banks { row: Row::fresh(), states: [BankState::Open; BANKS as usize] }
     }
 
-    /// A number that is no bank has no state: it is neither open nor closing.
-    fn state(&self, bank: u8) -> Option<BankState> {
-        self.states.get(usize::from(bank)).copied()
+    /// A row whose banks are in these states.
+    pub fn standing(row: Row, states: [BankState; BANKS as usize]) -> Banks {
+        Banks { row, states }
     }
 
-    fn in_open_bank(&self, frame: u8) -> bool {
+    /// A number that is no bank has no state: it is neither open nor closing.
+    fn state(&self, bank: u32) -> Option<BankState> {
+        self.states.get(bank as usize).copied()
+    }
+
+    fn in_open_bank(&self, frame: u32) -> bool {
         self.state(bank_of(frame)) == Some(BankState::Open)
     }
 
@@ -78,7 +83,7 @@ impl Banks {
 
     /// Order O7: 20, then 33, then the state table W6, then 25. A number that is no frame lies in no bank, so 20 and 33
     /// never apply at once, and 33 comes before all that the row has against the call.
-    fn frame_faults(&self, call: Call, frame: u8) -> Vec<Refusal> {
+    fn frame_faults(&self, call: Call, frame: u32) -> Vec<Refusal> {
         let mut faults = Vec::new();
         if matches!(call, Call::Put | Call::Start) && frame < FRAMES && !self.in_open_bank(frame) {
             faults.push(refusal(33));
@@ -88,7 +93,7 @@ impl Banks {
     }
 
     /// Order O8: 32, 30, 31.
-    fn bank_faults(&self, call: BankCall, bank: u8) -> Vec<Refusal> {
+    fn bank_faults(&self, call: BankCall, bank: u32) -> Vec<Refusal> {
         let mut faults = Vec::new();
         if bank >= BANKS {
             faults.push(refusal(32));
@@ -122,8 +127,8 @@ impl Banks {
     }
 
     /// Rule B2.
-    fn change(&mut self, call: BankCall, bank: u8) {
-        self.states[usize::from(bank)] = match call {
+    fn change(&mut self, call: BankCall, bank: u32) {
+        self.states[bank as usize] = match call {
             BankCall::Close => BankState::Closing,
             BankCall::Cut => BankState::Off,
             BankCall::Open => BankState::Open,
@@ -134,13 +139,13 @@ impl Banks {
     }
 
     /// Rule B4, refusals 26 and 27.
-    pub fn victim(&self) -> Result<u8, Refusal> {
+    pub fn victim(&self) -> Result<u32, Refusal> {
         self.row.victim_among(|frame| self.in_open_bank(frame))
     }
 
     /// For each frame the state of its bank.
     pub fn gates(&self) -> [BankState; FRAMES as usize] {
-        std::array::from_fn(|frame| self.states[usize::from(bank_of(frame as u8))])
+        std::array::from_fn(|frame| self.states[bank_of(frame as u32) as usize])
     }
 
     /// Rule B6: no frame of an off bank is held, and so none is busy.

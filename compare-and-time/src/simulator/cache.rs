@@ -10,7 +10,7 @@ pub enum Policy {
 }
 
 /// Rule L7.
-pub fn policy(number: u8) -> Option<Policy> {
+pub fn policy(number: u32) -> Option<Policy> {
     match number {
         0 => Some(Policy::Lru),
         1 => Some(Policy::Lfu),

@@ -76,7 +76,7 @@ pub fn report(bytes: &[u8]) -> String {
     };
     let mut tables = [[0; CAPACITIES]; 3];
     for (policy, table) in tables.iter_mut().enumerate() {
-        trace::count(&file.references, policy as u8, CAPACITIES, table).unwrap();
+        trace::count(&file.references, policy as u32, CAPACITIES, table).unwrap();
     }
     let mut text = String::from("capacity lru lfu opt\n");
     for &c in &file.capacities {

@@ -9,7 +9,7 @@ use super::{refusal, Refusal};
 
 const T: [u16; 12] = [2, 3, 2, 1, 5, 2, 4, 5, 3, 2, 5, 2];
 
-fn hits(trace: &[u16], policy: u8, k: usize) -> Vec<u32> {
+fn hits(trace: &[u16], policy: u32, k: usize) -> Vec<u32> {
     let mut table = vec![9; k];
     count(trace, policy, k, &mut table).unwrap();
     table
@@ -95,7 +95,7 @@ fn incident() {
     assert_eq!(banks.victim(), Err(refusal(26)), "P13");
 }
 
-fn frame(call: Call, frame: u8) -> Asked {
+fn frame(call: Call, frame: u32) -> Asked {
     Asked::Frame(call, frame)
 }
 

@@ -6,21 +6,24 @@
 
 pub mod banks;
 pub mod cache;
+pub mod entries;
 pub mod file;
 pub mod marked;
+pub mod memory;
 pub mod row;
 pub mod session;
 pub mod slots;
+pub mod sound;
 pub mod trace;
 
 pub const CAPACITIES: usize = 64; // L1
 pub const REFERENCES: usize = 4096; // L2
 pub const PAGES: u16 = 1024; // L3: page numbers are below it
-pub const FRAMES: u8 = 64; // L4: frame numbers are below it
+pub const FRAMES: u32 = 64; // L4: frame numbers are below it
 pub const HELD: usize = 32; // L5
 pub const SLOTS: usize = 64; // L6
-pub const BANKS: u8 = 4; // L8: bank numbers are below it
-pub const IN_BANK: u8 = 16; // L8: frames that lie in a bank
+pub const BANKS: u32 = 4; // L8: bank numbers are below it
+pub const IN_BANK: u32 = 16; // L8: frames that lie in a bank
 
 /// Rule A1.
 #[derive(Clone, Copy, PartialEq, Eq, Debug)]

@@ -24,7 +24,7 @@ pub enum State {
 
 #[derive(Clone)]
 struct Held {
-    frame: u8,
+    frame: u32,
     /// Of its last accepted put or touch.
     moment: usize,
     busy: bool,
@@ -55,18 +55,25 @@ impl Row {
         Row { calls: 0, held: Vec::new(), front: SLOTS, examined: 0, moves: 0 }
     }
 
+    /// The row that holds these frames, the oldest first.
+    pub fn standing(oldest_first: &[(u32, State)], front: usize) -> Row {
+        let held = |(moment, &(frame, state))| Held { frame, moment, busy: state == State::Busy };
+        let calls = oldest_first.len();
+        Row { calls, held: oldest_first.iter().enumerate().map(held).collect(), front, ..Row::fresh() }
+    }
+
     /// A number that is no frame is absent.
-    pub fn state(&self, frame: u8) -> State {
+    pub fn state(&self, frame: u32) -> State {
         self.held.iter().find(|h| h.frame == frame).map_or(State::Absent, Held::state)
     }
 
     /// The held frames, each with its state.
-    pub fn held(&self) -> impl Iterator<Item = (u8, State)> + '_ {
+    pub fn held(&self) -> impl Iterator<Item = (u32, State)> + '_ {
         self.held.iter().map(|h| (h.frame, h.state()))
     }
 
     /// Order O6: 20, then the state table W6, then 25.
-    pub fn faults(&self, call: Call, frame: u8) -> Vec<Refusal> {
+    pub fn faults(&self, call: Call, frame: u32) -> Vec<Refusal> {
         let mut faults = Vec::new();
         if frame >= FRAMES {
             faults.push(refusal(20));
@@ -85,7 +92,7 @@ impl Row {
     }
 
     /// The slots examined, or the refusal; a refusal examines none (W5).
-    pub fn call(&mut self, call: Call, frame: u8) -> Result<usize, Refusal> {
+    pub fn call(&mut self, call: Call, frame: u32) -> Result<usize, Refusal> {
         self.calls += 1;
         first(&self.faults(call, frame))?;
         match call {
@@ -100,12 +107,12 @@ impl Row {
     }
 
     /// These frames are held no more; the front stays.
-    pub fn leave(&mut self, leaves: impl Fn(u8) -> bool) {
+    pub fn leave(&mut self, leaves: impl Fn(u32) -> bool) {
         self.held.retain(|h| !leaves(h.frame));
     }
 
     /// W2 to W4: the frame has no slot of its own when the others are squeezed.
-    fn most_recent(&mut self, frame: u8) -> usize {
+    fn most_recent(&mut self, frame: u32) -> usize {
         let busy = self.state(frame) == State::Busy;
         self.leave(|held| held == frame);
         let examined = if self.front == 0 { SLOTS } else { 0 };
@@ -120,12 +127,12 @@ impl Row {
     }
 
     /// Rule W7, refusals 26 and 27.
-    pub fn victim(&self) -> Result<u8, Refusal> {
+    pub fn victim(&self) -> Result<u32, Refusal> {
         self.victim_among(|_| true)
     }
 
     /// The same, where only some frames may be given.
-    pub fn victim_among(&self, givable: impl Fn(u8) -> bool) -> Result<u8, Refusal> {
+    pub fn victim_among(&self, givable: impl Fn(u32) -> bool) -> Result<u32, Refusal> {
         if self.held.is_empty() {
             return Err(refusal(26));
         }

@@ -1,7 +1,7 @@
 //! A session (rules S1 to S3, O3, O4, R7).
 
 use super::cache::{policy, Caches, Policy};
-use super::{bad_limit, first, first_bad_page, refusal, Refusal, REFERENCES};
+use super::{bad_limit, first, refusal, Refusal, PAGES, REFERENCES};
 
 pub struct Session {
     pub caches: Caches,
@@ -9,7 +9,7 @@ pub struct Session {
 }
 
 /// Order O3: 5, 1.
-pub fn start_faults(policy_number: u8, k: usize) -> Vec<Refusal> {
+pub fn start_faults(policy_number: u32, k: usize) -> Vec<Refusal> {
     let mut faults = Vec::new();
     if matches!(policy(policy_number), None | Some(Policy::Opt)) {
         faults.push(refusal(5));
@@ -20,26 +20,28 @@ pub fn start_faults(policy_number: u8, k: usize) -> Vec<Refusal> {
     faults
 }
 
-pub fn start(policy_number: u8, k: usize) -> Result<Session, Refusal> {
+pub fn start(policy_number: u32, k: usize) -> Result<Session, Refusal> {
     first(&start_faults(policy_number, k))?;
     Ok(Session { caches: Caches::new(policy(policy_number).unwrap(), k), k })
 }
 
 impl Session {
     /// Order O4: 6, 3. The place of a bad page is 0 here.
-    pub fn reference_faults(&self, page: u16) -> Vec<Refusal> {
+    pub fn reference_faults(&self, page: u32) -> Vec<Refusal> {
         let mut faults = Vec::new();
         if self.caches.accepted == REFERENCES {
             faults.push(refusal(6));
         }
-        faults.extend(first_bad_page(&[page]));
+        if page >= PAGES.into() {
+            faults.push(refusal(3));
+        }
         faults
     }
 
     /// The depth, or 0.
-    pub fn reference(&mut self, page: u16) -> Result<usize, Refusal> {
+    pub fn reference(&mut self, page: u32) -> Result<usize, Refusal> {
         first(&self.reference_faults(page))?;
-        Ok(self.caches.reference(page, &[]))
+        Ok(self.caches.reference(page as u16, &[]))
     }
 
     pub fn accepted(&self) -> usize {

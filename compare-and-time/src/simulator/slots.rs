@@ -7,7 +7,7 @@ use super::SLOTS;
 
 #[derive(Clone)]
 pub struct Slots {
-    pub slots: [Option<u8>; SLOTS],
+    pub slots: [Option<u32>; SLOTS],
     pub front: usize,
 }
 
@@ -30,7 +30,7 @@ impl Slots {
         }
     }
 
-    fn put(&mut self, frame: u8) {
+    fn put(&mut self, frame: u32) {
         if self.front == 0 {
             self.squeeze();
         }
@@ -39,7 +39,7 @@ impl Slots {
     }
 
     fn squeeze(&mut self) {
-        let frames: Vec<u8> = self.slots.iter().flatten().copied().collect();
+        let frames: Vec<u32> = self.slots.iter().flatten().copied().collect();
         self.front = SLOTS - frames.len();
         self.slots = [None; SLOTS];
         for (i, &held) in frames.iter().enumerate() {
@@ -47,13 +47,13 @@ impl Slots {
         }
     }
 
-    fn empty(&mut self, frame: u8) {
+    fn empty(&mut self, frame: u32) {
         let at = self.slots.iter().position(|slot| *slot == Some(frame)).unwrap();
         self.slots[at] = None;
     }
 
     /// Without a squeeze, and the front stays (B2).
-    fn cut(&mut self, bank: u8) {
+    fn cut(&mut self, bank: u32) {
         for slot in &mut self.slots {
             if slot.is_some_and(|frame| bank_of(frame) == bank) {
                 *slot = None;

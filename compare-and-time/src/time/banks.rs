@@ -12,9 +12,9 @@ use std::hint::black_box;
 /// cut only when none is under way in it; now and then a bank is closed, cut or opened.
 fn any_call(rng: &mut Rng) -> Asked {
     if rng.percent(5) {
-        return Asked::Bank(rng.pick_by(&BANK_CALLS, &[2, 6, 3]), rng.below(BANKS.into()) as u8);
+        return Asked::Bank(rng.pick_by(&BANK_CALLS, &[2, 6, 3]), rng.below(BANKS as usize) as u32);
     }
-    Asked::Frame(rng.pick_by(&CALLS, &[14, 54, 6, 20, 6]), rng.below(FRAMES.into()) as u8)
+    Asked::Frame(rng.pick_by(&CALLS, &[14, 54, 6, 20, 6]), rng.below(FRAMES as usize) as u32)
 }
 
 pub fn banks<A: Banks, B: Banks>() -> Vec<Line> {
@@ -67,12 +67,12 @@ fn victims<L: Banks>(moments: &[L]) {
 }
 
 /// The bank that is cut.
-const BANK: u8 = 1;
+const BANK: u32 = 1;
 /// So few that they stay near the processor on both sides.
 const COPIES: usize = 200;
 
 /// A cut alone: copies of one memory are made outside the time, and each is cut once.
-fn cut<A: Banks, B: Banks>(what: &str, held: u8) -> Line {
+fn cut<A: Banks, B: Banks>(what: &str, held: u32) -> Line {
     let (ours, theirs) = (closing::<A>(held), closing::<B>(held));
     let (mut our_copies, mut their_copies) = (Vec::new(), Vec::new());
     let mut a = || cut_copies(&ours, &mut our_copies);
@@ -83,7 +83,7 @@ fn cut<A: Banks, B: Banks>(what: &str, held: u8) -> Line {
 }
 
 /// The bank is closing and holds so many idle frames, between those of the banks beside it.
-fn closing<L: Banks>(held: u8) -> L {
+fn closing<L: Banks>(held: u32) -> L {
     let mut banks = L::fresh();
     for i in 0..IN_BANK {
         let beside = IN_BANK * (BANK - 1 + i % 2 * 2) + i / 2;

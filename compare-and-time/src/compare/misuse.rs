@@ -1,0 +1,1 @@
+pub fn subjects() -> Vec<super::Subject> { vec![] }
