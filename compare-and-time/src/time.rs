@@ -98,21 +98,31 @@ pub fn sessions<A: Sessions, B: Sessions>() -> Vec<Line> {
     let mut lines = Vec::new();
     for (policy, name) in ["LRU", "LFU"].into_iter().enumerate() {
         for (kind, trace) in traces() {
-            let mut a = || references::<A>(policy as u32, &trace);
-            let mut b = || references::<B>(policy as u32, &trace);
+            let mut a = || drop(references::<A>(policy as u32, &trace));
+            let mut b = || drop(references::<B>(policy as u32, &trace));
             lines.push(race(format!("session's reference, {name}, {kind}"), 2.0, trace.len(), &mut a, &mut b));
         }
+    }
+    for (policy, name) in ["LRU", "LFU"].into_iter().enumerate() {
+        let (_, trace) = traces().swap_remove(0);
+        let (ours, theirs) = (references::<A>(policy as u32, &trace), references::<B>(policy as u32, &trace));
+        let work = format!("the test of a session, {name}");
+        lines.push(test(&work, PAIRWISE, &ours, &theirs, A::sound, B::sound));
     }
     lines
 }
 
-fn references<S: Sessions>(policy: u32, trace: &[u16]) {
+/// The library looks for a page that stands twice pair by pair; plain Rust marks pages in a table of its own.
+const PAIRWISE: f64 = 20.0;
+
+fn references<S: Sessions>(policy: u32, trace: &[u16]) -> S {
     let mut session = S::start(policy, LIMIT).unwrap();
     let mut sum = 0;
     for &page in black_box(trace) {
         sum += session.reference(page.into()).unwrap();
     }
     black_box(sum);
+    session
 }
 
 /// The calls that a working row gets: mostly touches, a put and a drop now and then, transfers.
@@ -143,7 +153,24 @@ pub fn rows<A: Rows, B: Rows>() -> Vec<Line> {
     let (ours, theirs) = (after(&calls, call::<A>), after(&calls, call::<B>));
     let mut a = || victims(&ours);
     let mut b = || victims(&theirs);
-    vec![moved, race("row call, victim".to_string(), 2.0, VICTIMS, &mut a, &mut b)]
+    let chosen = race("row call, victim".to_string(), 2.0, VICTIMS, &mut a, &mut b);
+    vec![moved, chosen, test("the test of a row", 2.0, &ours, &theirs, A::sound, B::sound)]
+}
+
+/// The test of all that stands in a memory, by itself.
+fn test<A, B>(work: &str, bar: f64, ours: &A, theirs: &B, tests_a: fn(&A) -> bool, tests_b: fn(&B) -> bool) -> Line {
+    assert!(tests_a(ours) && tests_b(theirs), "what is tested is sound");
+    let mut a = || tests(ours, tests_a);
+    let mut b = || tests(theirs, tests_b);
+    race(work.to_string(), bar, TESTS, &mut a, &mut b)
+}
+
+const TESTS: usize = 500;
+
+fn tests<T>(memory: &T, test: fn(&T) -> bool) {
+    for _ in 0..TESTS {
+        black_box(test(black_box(memory)));
+    }
 }
 
 #[inline]

@@ -66,9 +66,7 @@ impl Session {
     /// How many references were accepted.
     pub fn references(&self) -> Answer {
         let Session { k, length, references, policy, .. } = self;
-        answer(|value| unsafe {
-            raw::musselrung_session_references_parts(*policy, *k, *length, *references, value)
-        })
+        answer(|value| unsafe { raw::musselrung_session_references_parts(*policy, *k, *length, *references, value) })
     }
 
     pub fn hits(&self, capacity: u64) -> Answer {
@@ -88,8 +86,6 @@ impl Session {
     /// Does it pass the whole test X4?
     pub fn sound(&self) -> bool {
         let Session { k, length, references, places, depths, counts, policy } = self;
-        unsafe {
-            raw::musselrung_session_sound_parts(*policy, *k, *length, *references, places, depths, counts) == 1
-        }
+        unsafe { raw::musselrung_session_sound_parts(*policy, *k, *length, *references, places, depths, counts) == 1 }
     }
 }

@@ -3,9 +3,9 @@
 
 use super::{must, same, Outcome, Tally};
 use crate::simulator::banks::{Asked, Banks};
+use crate::simulator::memory;
 use crate::simulator::row::Call;
 use crate::simulator::slots::Slots;
-use crate::simulator::memory;
 use crate::subject::{self, Answer, Rows};
 use std::fmt::Display;
 

@@ -79,7 +79,8 @@ impl<L: Sessions> Pair<L> {
 /// Random histories, bad references among them, read at random moments.
 fn drawn_case<L: Sessions>(_: u64, rng: &mut Rng, tally: &mut Tally) -> Outcome {
     let bits = if rng.percent(80) { 0 } else { rng.below(4) };
-    let policy = if bits & 1 == 1 { rng.pick(&[2, 2, 3, 255, 256, 256 + 1, 65_536 + 1, u32::MAX]) } else { rng.below(2) as u32 };
+    let bad = rng.pick(&[2, 2, 3, 255, 256, 256 + 1, 65_536 + 1, u32::MAX]);
+    let policy = if bits & 1 == 1 { bad } else { rng.below(2) as u32 };
     let k = if bits & 2 == 2 { gen::bad_limit(rng) } else { gen::limit(rng) };
     let Some(mut pair) = Pair::<L>::start(policy, k, tally)? else { return Ok(()) };
     // some sessions go on after they are full

@@ -81,7 +81,8 @@ impl Banks {
     #[inline(always)]
     fn is_sound(&self) -> bool {
         let empty = |bank: usize| !self.row.any_held(bank * IN_BANK..(bank + 1) * IN_BANK);
-        self.row.is_sound() && (0..BANKS).all(|bank| self.states[bank] <= CLOSING && (self.states[bank] != OFF || empty(bank)))
+        let fits = |bank: usize| self.states[bank] <= CLOSING && (self.states[bank] != OFF || empty(bank));
+        self.row.is_sound() && (0..BANKS).all(fits)
     }
 
     #[inline(always)]

@@ -2,7 +2,7 @@
 //! comparison can say that it met memory to which nothing but one part objects. Part n of test m has the number
 //! 100 + 10 m + n; X5 has ten parts, so X6 comes after 160.
 
-use super::{BANKS, CAPACITIES, FRAMES, HELD, IN_BANK, PAGES, REFERENCES, SLOTS};
+use super::{CAPACITIES, FRAMES, HELD, IN_BANK, PAGES, REFERENCES, SLOTS};
 use crate::musselrung::{Banks, Row, Session};
 
 /// The numbers of the parts of each test.
@@ -81,8 +81,7 @@ pub fn row(row: &Row) -> Vec<u8> {
 /// Banks are sound.
 pub fn banks(banks: &Banks) -> Vec<u8> {
     let (gates, states) = (&banks.gates, &banks.row.states);
-    let in_bank = IN_BANK as usize;
-    let alike = (0..BANKS as usize).all(|bank| gates[bank * in_bank..][..in_bank].windows(2).all(|two| two[0] == two[1]));
+    let alike = gates.chunks(IN_BANK as usize).all(|bank| bank.windows(2).all(|two| two[0] == two[1]));
     let off_and_held = (0..FRAMES as usize).any(|frame| gates[frame] == 0 && matches!(states[frame], 1 | 2));
     [row(&banks.row), failing(X6, [gates.iter().all(|&gate| gate <= 2), alike, !off_and_held])].concat()
 }

@@ -1,6 +1,6 @@
 //! The row under banks: a mix of all eight calls, the victim, and a cut by itself.
 
-use super::{after, mixed, nanoseconds, race, race_timed, Line};
+use super::{after, mixed, nanoseconds, race, race_timed, test, Line};
 use crate::rng::Rng;
 use crate::simulator::banks::{Asked, BankCall, BANK_CALLS};
 use crate::simulator::row::{Call, CALLS};
@@ -22,7 +22,9 @@ pub fn banks<A: Banks, B: Banks>() -> Vec<Line> {
     let mut a = || drop(black_box(after(black_box(&calls), A::ask)));
     let mut b = || drop(black_box(after(black_box(&calls), B::ask)));
     let moved = race("banks call, a mix of all eight".to_string(), 1.5, calls.len(), &mut a, &mut b);
-    vec![moved, victim::<A, B>(&calls), cut::<A, B>("a full bank", IN_BANK), cut::<A, B>("an empty bank", 0)]
+    let (full, empty) = (cut::<A, B>("a full bank", IN_BANK), cut::<A, B>("an empty bank", 0));
+    let (ours, theirs): (A, B) = (after(&calls, A::ask), after(&calls, B::ask));
+    vec![moved, victim::<A, B>(&calls), full, empty, test("the test of banks", 2.0, &ours, &theirs, A::sound, B::sound)]
 }
 
 fn memories<L: Banks>(all: &[L]) -> Vec<(Memory, [u8; 64])> {
