@@ -1,5 +1,7 @@
 //! The independent simulator, written from docs/RULES.md alone. It shares nothing with the library, its limits neither:
 //! it keeps no one-pass list, runs a plain cache for every capacity, and looks ahead for OPT. Slow and plain on purpose.
+//! `sound`, `memory` and `entries` speak of memory as it is lent: what passes a test, and what a call makes of it, also where
+//! no history has given it.
 //!
 //! Each call has a function `faults` that lists ALL refusals that apply, in the call's order; the answer is the first
 //! (rule A2). So a comparison can also say which refusals it has seen apply at once.
