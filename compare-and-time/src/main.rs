@@ -2,6 +2,7 @@
 
 mod compare;
 mod gen;
+mod guarded;
 #[path = "../../rust/musselrung/mod.rs"]
 mod musselrung;
 mod of_plain;

@@ -5,6 +5,7 @@ mod row;
 mod session;
 
 use crate::compare::{self, file, list, misuse, trace, Subject};
+use crate::guarded::Guarded;
 use crate::musselrung::{self, Answer, Banks, Refused, Row, Session, CAPACITIES, REFERENCES, REPORT};
 use crate::simulator::file::File;
 use crate::simulator::Refusal;
@@ -63,18 +64,22 @@ impl Counts for Proved {
 
 impl Lists for Proved {
     fn list(trace: &[u16], policy: u32, k: usize, t: usize) -> Result<(usize, Vec<u16>), Refusal> {
-        let mut places = [UNTOUCHED; CAPACITIES];
-        let answer = musselrung::list(trace, policy, k as u64, t as u64, &mut places);
-        assert!(answer.is_ok() || places == [UNTOUCHED; CAPACITIES], "a refusal wrote a list");
-        Ok((found(answer)?, places.to_vec()))
+        let mut places = Guarded::new([UNTOUCHED; CAPACITIES]);
+        let answer = musselrung::list(trace, policy, k as u64, t as u64, &mut places.it);
+        assert!(places.whole(), "a list wrote beside its table");
+        assert!(answer.is_ok() || places.it == [UNTOUCHED; CAPACITIES], "a refusal wrote a list");
+        Ok((found(answer)?, places.it.to_vec()))
     }
 }
 
 impl Files for Proved {
     fn read(bytes: &[u8]) -> Result<File, Refusal> {
-        let (mut capacities, mut references) = ([UNTOUCHED; CAPACITIES], [UNTOUCHED; REFERENCES]);
-        let mut counts = [7; 2];
-        let answer = musselrung::read(bytes, &mut capacities, &mut references, &mut counts);
+        let mut capacities = Guarded::new([UNTOUCHED; CAPACITIES]);
+        let mut references = Guarded::new([UNTOUCHED; REFERENCES]);
+        let mut counts = Guarded::new([7; 2]);
+        let answer = musselrung::read(bytes, &mut capacities.it, &mut references.it, &mut counts.it);
+        assert!(capacities.whole() && references.whole() && counts.whole(), "the reader wrote beside its tables");
+        let (capacities, references, counts) = (capacities.it, references.it, counts.it);
         let [some, many] = if answer.is_ok() { counts.map(|count| count as usize) } else { [0; 2] };
         let unwritten = capacities[some..].iter().chain(&references[many..]).all(|&value| value == UNTOUCHED);
         assert!(unwritten, "the reader wrote past its values, or a refusal wrote");
@@ -84,9 +89,9 @@ impl Files for Proved {
     }
 
     fn report(bytes: &[u8]) -> Vec<u8> {
-        let mut out = [0xa5; REPORT];
-        let length = musselrung::report(bytes, &mut out);
-        assert!(out[length..].iter().all(|&byte| byte == 0xa5), "the report wrote past its end");
-        out[..length].to_vec()
+        let mut out = Guarded::new([0xa5; REPORT]);
+        let length = musselrung::report(bytes, &mut out.it);
+        assert!(out.whole() && out.it[length..].iter().all(|&byte| byte == 0xa5), "the report wrote past its end");
+        out.it[..length].to_vec()
     }
 }

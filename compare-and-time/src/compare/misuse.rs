@@ -1,6 +1,6 @@
-//! Memory that is not what it should be. Rows, banks and sessions that nobody prepared, or that somebody else has written into,
-//! are lent to the library between guard bytes: each call answers 40 and leaves all as it was, or what the simulator says of
-//! the memory; no guard byte is touched; and `sound` says what the simulator's tests say.
+//! Memory that is not what it should be. Rows, banks and sessions that nobody prepared, or that somebody else has written
+//! into, are lent to the library between guard bytes: each call answers 40 and leaves all as it was, or what the simulator
+//! says of the memory; no guard byte is touched; and `sound` says what the simulator's tests say.
 
 mod bytes;
 mod fault;
@@ -18,11 +18,14 @@ use crate::rng::Rng;
 use crate::simulator::banks::{Asked, BANK_CALLS};
 use crate::simulator::memory::{banks_in, of_banks};
 use crate::simulator::row::CALLS;
-use crate::simulator::{entries, refusal, sound, Refusal};
+use crate::simulator::session::start_faults;
+use crate::simulator::slots::Slots;
+use crate::simulator::{self, entries, first, refusal, sound, Refusal};
 
 /// What a row, or a row under banks, is asked.
 #[derive(Clone, Copy, Debug)]
 pub enum Ask {
+    Fresh,
     Call(Asked),
     Victim,
     Sound,
@@ -32,7 +35,7 @@ impl Ask {
     fn number(self) -> u32 {
         match self {
             Ask::Call(Asked::Frame(_, number) | Asked::Bank(_, number)) => number,
-            Ask::Victim | Ask::Sound => unreachable!("nothing is asked of a number"),
+            Ask::Fresh | Ask::Victim | Ask::Sound => unreachable!("nothing is asked of a number"),
         }
     }
 }
@@ -50,7 +53,8 @@ pub fn subjects() -> Vec<Subject> {
     // 40 where one part of a test alone objects, for each part; and refusals that come after it
     let parts = [&sound::X2[..], &sound::X3, &sound::X4, &sound::X5, &sound::X6].concat();
     let mut sets: Vec<Vec<u8>> = parts.into_iter().map(|part| vec![40, part]).collect();
-    let others: [&[u8]; 12] = [&[], &[40], &[3], &[6], &[7], &[20, 22], &[25], &[27], &[30], &[31], &[32], &[33, 22]];
+    let others: [&[u8]; 13] =
+        [&[], &[40], &[3], &[6], &[7], &[5, 1], &[20, 22], &[25], &[27], &[30], &[31], &[32], &[33, 22]];
     sets.extend(others.map(<[u8]>::to_vec));
     vec![
         Subject { name: "misuse", short: 60_000, full: 1_000_000, case, sets },
@@ -119,7 +123,7 @@ fn banks_case(under_banks: bool, fault: Fault, rng: &mut Rng, tally: &mut Tally)
     }
     let frame_calls = CALLS.map(|call| Ask::Call(Asked::Frame(call, frame(rng, &memory))));
     let bank_calls = BANK_CALLS.map(|call| Ask::Call(Asked::Bank(call, rng.pick(&[0, 1, 2, 3, 3, 2, 1, 0, 4, 257]))));
-    let mut asks = [&[Ask::Sound, Ask::Victim], &frame_calls[..]].concat();
+    let mut asks = [&[Ask::Fresh, Ask::Sound, Ask::Victim], &frame_calls[..]].concat();
     if under_banks {
         asks.extend(bank_calls);
     }
@@ -144,7 +148,11 @@ fn frame(rng: &mut Rng, memory: &Banks) -> u32 {
 }
 
 fn compare_banks(under_banks: bool, memory: &mut Banks, ask: Ask, fault: Fault, tally: &mut Tally) -> Outcome {
-    let failing = if under_banks { sound::banks(memory) } else { sound::row(&memory.row) };
+    let failing = match ask {
+        Ask::Fresh => Vec::new(),
+        _ if under_banks => sound::banks(memory),
+        _ => sound::row(&memory.row),
+    };
     let (want, after) = banks_answer(memory, ask, &failing, tally);
     let before = memory.clone();
     let shown = |fault: String| format!("{ask:?} on {before:?}, of which {failing:?} fail: {fault}");
@@ -165,6 +173,10 @@ fn banks_answer(before: &Banks, ask: Ask, failing: &[u8], tally: &mut Tally) -> 
     if !failing.is_empty() {
         note(tally, failing, &[]);
         return (Told::new(40, 0), before.clone());
+    }
+    if let Ask::Fresh = ask {
+        tally.note(&[]);
+        return (Told::new(0, UNTOLD), of_banks(&simulator::banks::Banks::fresh(), &Slots::fresh()));
     }
     let (mut banks, mut slots) = banks_in(before);
     match ask {
@@ -193,7 +205,9 @@ fn session_case(fault: Fault, rng: &mut Rng, tally: &mut Tally) -> Outcome {
     let page = rng.pick(&[any, (65_535 - listed % 65_536) & 1023, largest, bad]);
     let (k, some) = (memory.k, rng.below(70) as u64);
     let capacity = rng.pick(&[0, 1, k, k.wrapping_add(1), 64, 65, some, u64::MAX]);
+    let (policy, limit) = (rng.pick(&[0, 1, 1, 2, 255, 256]), rng.pick(&[1, 64, some, capacity]));
     let asks = [
+        SessionAsk::Start(policy, limit),
         SessionAsk::Sound,
         SessionAsk::Refer(page),
         SessionAsk::Refer(any),
@@ -213,6 +227,7 @@ fn session_case(fault: Fault, rng: &mut Rng, tally: &mut Tally) -> Outcome {
 
 fn compare_session(memory: &mut Session, ask: SessionAsk, fault: Fault, tally: &mut Tally) -> Outcome {
     let failing = match ask {
+        SessionAsk::Start(..) => Vec::new(),
         SessionAsk::Sound => sound::session(memory),
         SessionAsk::Hits(_) | SessionAsk::Misses(_) => sound::depths(memory),
         SessionAsk::Refer(_) | SessionAsk::List | SessionAsk::References => sound::numbers(memory),
@@ -244,6 +259,15 @@ fn session_answer(before: &Session, ask: SessionAsk, failing: &[u8], tally: &mut
     }
     let hits = |capacity| entries::hits(before, capacity);
     let (answer, after) = match ask {
+        SessionAsk::Start(policy, k) => {
+            let faults = start_faults(policy, k as usize);
+            tally.note(&faults);
+            let started = Session { policy: policy as u8, k, ..Session::EMPTY };
+            return match first(&faults) {
+                Ok(()) => (Told::new(0, UNTOLD), started),
+                Err(refused) => (Told::new(refused.number.into(), UNTOLD), same),
+            };
+        }
         SessionAsk::Refer(page) => {
             tally.note(&entries::faults(before, page));
             return match entries::reference(before, page) {

@@ -1,7 +1,7 @@
 //! Whole traces: the answer and the whole hit table after the call, for every policy.
 
 use super::faults::{at_edge, drawn, Call, Faults, EDGES};
-use super::{all_sets, chosen, made_with, numbers, same, Outcome, Subject, Tally};
+use super::{all_sets, chosen, made_with, must, numbers, same, Outcome, Subject, Tally};
 use crate::gen::BAD_LIMITS;
 use crate::rng::Rng;
 use crate::simulator::trace::{count, count_faults};
@@ -13,6 +13,8 @@ const ORDER: [u8; 5] = [5, 1, 2, 4, 3];
 const SETS: usize = 32;
 /// No larger table is lent.
 const MOST: usize = 5 * CAPACITIES;
+/// What stands beside the table that is lent.
+const BESIDE: [u32; 16] = [0xa5a5_a5a5; 16];
 
 pub fn subjects<L: Counts>() -> Vec<Subject> {
     let sets = all_sets(&ORDER);
@@ -58,9 +60,15 @@ fn compare<L: Counts>(call: &Call, before: &[u32], tally: &mut Tally) -> Result<
     for &policy in policies {
         let text = format!("count of {} references, policy {policy}, K {k}, a table of {}", trace.len(), before.len());
         let faults = count_faults(trace, policy, *k, before);
-        let (mut got, mut want) = (before.to_vec(), before.to_vec());
-        same(&text, L::count(trace, policy, *k, &mut got), count(trace, policy, *k, &mut want))?;
-        same(&format!("hit table after {text}"), got, want)?;
+        // the table stands between others of ours
+        let (mut lent, mut want) = ([&BESIDE, before, &BESIDE].concat(), before.to_vec());
+        let got = BESIDE.len()..BESIDE.len() + before.len();
+        same(&text, L::count(trace, policy, *k, &mut lent[got.clone()]), count(trace, policy, *k, &mut want))?;
+        same(&format!("hit table after {text}"), &lent[got.clone()], &want[..])?;
+        must(
+            lent[..got.start] == BESIDE && lent[got.end..] == BESIDE,
+            &format!("nothing is written beside it: {text}"),
+        )?;
         tally.note(&faults);
         met = numbers(&faults);
     }

@@ -2,11 +2,11 @@
 
 use super::fault::Fault;
 use super::Ask;
+use crate::guarded::Guarded;
 use crate::musselrung::{raw, Banks, Row, Session, CAPACITIES};
 use crate::simulator::banks::{Asked, BankCall};
 use crate::simulator::row::Call;
 
-const GUARD: u8 = 0xa5;
 /// What stands where the library has not told anything.
 pub const UNTOLD: u64 = 0xa5a5_a5a5_a5a5_a5a5;
 pub const UNSHOWN: [u16; CAPACITIES] = [0xa5a5; CAPACITIES];
@@ -22,27 +22,6 @@ pub struct Told {
 impl Told {
     pub fn new(number: u32, value: u64) -> Told {
         Told { number, value, shown: UNSHOWN }
-    }
-}
-
-#[repr(C)]
-struct Guarded<T> {
-    before: [u8; 64],
-    it: T,
-    after: [u8; 64],
-}
-
-impl<T> Guarded<T> {
-    fn new(it: T) -> Guarded<T> {
-        Guarded { before: [GUARD; 64], it, after: [GUARD; 64] }
-    }
-
-    fn at(&mut self) -> *mut T {
-        &mut self.it
-    }
-
-    fn whole(&self) -> bool {
-        self.before.iter().chain(&self.after).all(|&byte| byte == GUARD)
     }
 }
 
@@ -91,6 +70,7 @@ impl LentBanks {
     /// Calls a function of the row alone: the gates are not lent.
     fn ask_row(&mut self, ask: Ask) -> u32 {
         let function = match ask {
+            Ask::Fresh => return self.row_fresh(),
             Ask::Victim => return self.row_victim(),
             Ask::Sound => return self.row_sound(),
             Ask::Call(Asked::Frame(Call::Put, _)) => raw::musselrung_row_put_parts,
@@ -102,6 +82,12 @@ impl LentBanks {
         };
         let LentBanks { slots, places, states, front, held, value, .. } = self;
         unsafe { function(slots.at(), places.at(), states.at(), front.at(), held.at(), ask.number(), value.at()) }
+    }
+
+    fn row_fresh(&mut self) -> u32 {
+        let LentBanks { slots, places, states, front, held, .. } = self;
+        unsafe { raw::musselrung_row_fresh_parts(slots.at(), places.at(), states.at(), front.at(), held.at()) }
+        0
     }
 
     fn row_victim(&mut self) -> u32 {
@@ -116,11 +102,19 @@ impl LentBanks {
 
     fn ask_banks(&mut self, ask: Ask) -> u32 {
         match ask {
+            Ask::Fresh => self.banks_fresh(),
             Ask::Victim => self.banks_victim(),
             Ask::Sound => self.banks_sound(),
             Ask::Call(Asked::Frame(call, frame)) => self.frame_call(call, frame),
             Ask::Call(Asked::Bank(call, bank)) => self.bank_call(call, bank),
         }
+    }
+
+    fn banks_fresh(&mut self) -> u32 {
+        let LentBanks { slots, places, states, front, held, gates, .. } = self;
+        let (front, held, gates) = (front.at(), held.at(), gates.at());
+        unsafe { raw::musselrung_banks_fresh_parts(slots.at(), places.at(), states.at(), front, held, gates) }
+        0
     }
 
     fn frame_call(&mut self, call: Call, frame: u32) -> u32 {
@@ -175,6 +169,7 @@ pub fn ask_banks(under_banks: bool, memory: &mut Banks, ask: Ask, fault: Fault) 
 /// What a session is asked.
 #[derive(Clone, Copy, Debug)]
 pub enum SessionAsk {
+    Start(u32, u64),
     Refer(u32),
     List,
     References,
@@ -183,9 +178,10 @@ pub enum SessionAsk {
     Sound,
 }
 
-/// Asks the library of a session. Its policy and K are passed by value, and nothing but a reference is lent its numbers.
+/// Asks the library of a session. Only a start is lent its policy and K, and only a reference the other numbers too.
 pub fn ask_session(memory: &mut Session, ask: SessionAsk, fault: Fault) -> Result<Told, String> {
     let Session { k, length, references, policy, .. } = *memory;
+    let (mut policy_lent, mut k_lent) = (Guarded::new(policy), Guarded::new(k));
     let mut used = Guarded::new(length);
     let mut accepted = Guarded::new(references);
     let mut places = Guarded::new(memory.places);
@@ -197,6 +193,10 @@ pub fn ask_session(memory: &mut Session, ask: SessionAsk, fault: Fault) -> Resul
         let (used, accepted, shown, value) = (used.at(), accepted.at(), shown.at(), value.at());
         use raw::*;
         match ask {
+            SessionAsk::Start(wanted, limit) => {
+                let (policy, k) = (policy_lent.at(), k_lent.at());
+                musselrung_session_start_parts(wanted, limit, policy, k, used, accepted, places, depths, counts)
+            }
             SessionAsk::Refer(page) => {
                 musselrung_session_refer_parts(policy, k, used, accepted, places, depths, counts, page, value)
             }
@@ -210,12 +210,13 @@ pub fn ask_session(memory: &mut Session, ask: SessionAsk, fault: Fault) -> Resul
     if number == 40 && fault == Fault::Guard {
         depths.before[63] = 0;
     }
-    let whole = [&used, &accepted, &value].into_iter().all(Guarded::whole)
+    let whole = [&used, &accepted, &value, &k_lent].into_iter().all(Guarded::whole)
+        && policy_lent.whole()
         && places.whole()
         && depths.whole()
         && counts.whole()
         && shown.whole();
-    let (length, references) = (used.it, accepted.it);
+    let (policy, k, length, references) = (policy_lent.it, k_lent.it, used.it, accepted.it);
     *memory = Session { k, length, references, places: places.it, depths: depths.it, counts: counts.it, policy };
     unless_torn(whole, Told { number, value: value.it, shown: shown.it })
 }
