@@ -1,33 +1,32 @@
--- For whoever drives a session through the exported calls: what a start leaves is what the other calls ask, and so is what
--- each of them leaves.
+-- For whoever drives a session through the exported calls: what an accepted start leaves passes the tests of the other calls, and
+-- so does what each of them leaves. What crate session proves of every memory that a start and calls gave says it for these.
 use Prim.Native.Nat.{ℕ}
 use native.Mathlib.Omega.{arith}
-use mathlib.Core.Bool.{not}
-use mathlib.Core.Path.{_≡_, ap, sym, _∙_}
+use mathlib.Core.Bool.{not, true}
+use mathlib.Core.Path.{_≡_, sym, _∙_}
 use mathlib.Core.List.{List, [], _∷_}
 use lib.Dec.{leb}
 use Rattle.rules.specs.Limits.{opt, isCapacity}
 use Rattle.rules.specs.Cases.{by-cases}
 use Rattle.rules.specs.Refusals.{numberOf}
+use Rattle.rules.specs.Told.{Told}
 use Rattle.rules.specs.declared.Answer.the-variants.{Accepted}
 use Rattle.session.specs.History.{startAnswer}
-use Rattle.session.specs.Memory.{Valued, Listable, Counting}
+use Rattle.session.specs.Lent.{Lent}
+use Rattle.session.specs.Memory.{Given}
+use Rattle.session.specs.AnyMemory.{afterReference}
+use Rattle.session.specs.Tests.{fits, countable}
 use Rattle.session.specs.StartLaws.{start-begun, start-gives}
-use Rattle.session.specs.Driving.{listable, counting, valued}
-use Rattle.exports.specs.declared.Told.{Told}
-use Rattle.exports.specs.declared.ToldNumber.{ToldNumber}
-use Rattle.exports.specs.Lent.{Lent}
-use Rattle.exports.specs.Session.{Lives, startLent, StartTold, ReferTold}
+use Rattle.session.specs.TestLaws.{value-fits, value-countable, fits-after}
+use Rattle.exports.specs.Session.{startLent, StartTold, ReferTold}
 
--- what the calls of a session ask of the memory that they are lent
-pub record SessionAsks (m : Lent) : Type 0 where
-  pub refer : Lives m
-  pub list : Listable (m .value) (m .places)
-  pub references : Valued (m .value)
-  pub hits-and-misses : Counting (m .value) (m .depths)
+-- the tests of all calls
+pub record Passes (m : Lent) : Type 0 where
+  pub numbers : fits (m .value) ≡ true
+  pub depths : countable (m .value) (m .depths) ≡ true
 
-alive-asks : {m : Lent} → Lives m → SessionAsks m
-alive-asks a = record { refer = a; list = listable a; references = valued a; hits-and-misses = counting a }
+pub given-passes : {policy k : ℕ} {calls : List ℕ} {m : Lent} → Given policy k calls m → Passes m
+given-passes g = record { numbers = value-fits (g .value); depths = value-countable (g .value) (g .tallied) }
 
 -- no refusal of a start has number 0
 not-refused : (policy k : ℕ) → numberOf (startAnswer policy k) ≡ 0 → startAnswer policy k ≡ Accepted
@@ -37,18 +36,23 @@ not-refused policy k none =
     by-cases (not (isCapacity k)) (λ bad. absurd (omega (arith, rw (good, bad) at none)))
     (λ within. rw (good, within)))
 
-pub start-asks : {policy k : ℕ} {before after : Lent} {told : Told} → StartTold policy k before after told → told .number ≡ 0
-    → SessionAsks after
-start-asks {policy} {k} p zero =
-    let accepted = not-refused policy k (sym (ap (λ (t : Told). t .number) (p .answer)) ∙ zero) in
-    let left : _ ≡ startLent policy k = p .memory ∙ rw accepted in
-    let gives = start-gives {places = []} {depths = []} {counts = []} (start-begun accepted) accepted in
-    rw left (alive-asks (record { policy = policy; k = k; calls = []; gives = gives }))
+module _ {policy k : ℕ} {before after : Lent} (p : StartTold policy k before after 0) where
+  pub start-given : Given policy k [] after
+  start-given =
+      let accepted = not-refused policy k (sym (p .answered)) in
+      let left : after ≡ startLent policy k = p .memory ∙ rw accepted in
+      rw left (start-gives {places = []} {depths = []} {counts = []} (start-begun accepted) accepted)
 
--- whether the reference is accepted or refused
-pub refer-asks : {before after : Lent} {page : ℕ} {told : ToldNumber} → SessionAsks before → ReferTold before page after told
-    → SessionAsks after
-refer-asks {page = page} asks p =
-    let a = asks .refer in
-    alive-asks
-    (record { policy = a .policy; k = a .k; calls = page ∷ a .calls; gives = p .next (a .policy) (a .k) (a .calls) (a .gives) })
+  pub start-passes : Passes after
+  start-passes = given-passes start-given
+
+module _ {before after : Lent} {page : ℕ} {answer : Told} (p : ReferTold before page after answer) where
+  -- whether the reference is accepted or refused
+  pub refer-passes : {policy k : ℕ} {calls : List ℕ} → Given policy k calls before → Passes after
+  refer-passes {policy} {k} {calls} g = given-passes (p .next policy k calls g)
+
+  -- and in any memory: what a reference, a list and the references are told of is told again
+  pub refer-fits : fits (before .value) ≡ true → fits (after .value) ≡ true
+  refer-fits passed =
+      let left : after ≡ afterReference before page = p .memory ∙ rw passed in
+      rw left (fits-after before page passed)

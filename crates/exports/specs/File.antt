@@ -5,9 +5,8 @@ use Prim.Native.Nat.{ℕ}
 use lib.ListN.{length, set}
 use Rattle.file_theory.specs.Decoding.{Outcome, says, refuses, Trace}
 use Rattle.file_theory.specs.Promises.{overwritten, capsOf, refsOf}
+use Rattle.rules.specs.Told.{Told, toldOf}
 use Rattle.rules.specs.declared.Answer.the-variants.{Accepted, Refused}
-use Rattle.exports.specs.declared.Told.{Told}
-use Rattle.exports.specs.Told.{toldOf}
 
 abbrev pub fileTold : Outcome Trace → Told
 fileTold (says t) = toldOf Accepted

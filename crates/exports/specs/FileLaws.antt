@@ -4,6 +4,7 @@ use mathlib.Core.Path.{_≡_, refl, _∙_}
 use mathlib.Core.List.{List}
 use native.Mathlib.Omega.{arith}
 use lib.ListN.{set}
+use Rattle.rules.specs.Told.{Told, toldOf}
 use Rattle.rules.specs.declared.Refusal.{Refusal}
 use Rattle.rules.specs.declared.Answer.the-variants.{Accepted, Refused}
 use Rattle.file_theory.specs.declared.Counts.{Counts}
@@ -11,8 +12,6 @@ use Rattle.file_theory.specs.declared.Reading.{Reading}
 use Rattle.file_theory.specs.declared.Reading.the-variants as reading
 use Rattle.file_theory.specs.Decoding.{Outcome, says, refuses, Trace}
 use Rattle.file_theory.specs.Promises.{FileRead}
-use Rattle.exports.specs.declared.Told.{Told}
-use Rattle.exports.specs.Told.{toldOf}
 use Rattle.exports.specs.File.{FileTold}
 
 module _ {caps refs caps-after refs-after : List ℕ} {answer : Reading} {told : Told} (counts : List ℕ) where

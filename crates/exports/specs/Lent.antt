@@ -1,33 +1,34 @@
--- A session that the caller lends, as a contract has it: now (before a call), at its entry and at its exit.
+-- A session that the caller lends in its parts, as a contract has it: at a call's entry and at its exit.
 use Prim.Native.Nat.{ℕ}
 use mathlib.Core.List.{List}
 use denote.Ref.{RefT}
 use Rattle.rules.specs.Lent.{Changed}
 use Rattle.session.specs.declared.Session.{Session}
-
--- a session: its value and its three tables
-pub record Lent : Type 0 where
-  pub value : Session
-  pub places : List ℕ
-  pub depths : List ℕ
-  pub counts : List ℕ
+use Rattle.session.specs.Lent.{Lent, lentOf}
 
 abbrev pub sessionOf : ℕ → ℕ → ℕ → ℕ → Session
 sessionOf policy k length references = record { policy = policy; k = k; length = length; references = references }
 
-abbrev pub lent : ℕ → ℕ → ℕ → ℕ → List ℕ → List ℕ → List ℕ → Lent
-lent policy k length references places depths counts =
-    record { value = sessionOf policy k length references; places = places; depths = depths; counts = counts }
+abbrev partsNow : ℕ → ℕ → RefT ℕ → RefT ℕ → RefT (List ℕ) → RefT (List ℕ) → RefT (List ℕ) → Lent
+partsNow policy k length references places depths counts =
+    lentOf (sessionOf policy k (length .now) (references .now)) (places .now) (depths .now) (counts .now)
 
-abbrev pub sessionNow : RefT ℕ → RefT ℕ → RefT ℕ → RefT ℕ → RefT (List ℕ) → RefT (List ℕ) → RefT (List ℕ) → Lent
-sessionNow policy k length references places depths counts =
-    lent (policy .now) (k .now) (length .now) (references .now) (places .now) (depths .now) (counts .now)
-
+-- a start writes all of it
 module _ (policy k length references : Changed ℕ) (places depths counts : Changed (List ℕ)) where
+  abbrev pub startedAtEntry : Lent
+  startedAtEntry =
+      partsNow (policy .entry .now) (k .entry .now)
+      (length .entry) (references .entry) (places .entry) (depths .entry) (counts .entry)
+
+  abbrev pub startedAtExit : Lent
+  startedAtExit =
+      partsNow (policy .exit .now) (k .exit .now)
+      (length .exit) (references .exit) (places .exit) (depths .exit) (counts .exit)
+
+-- a reference writes neither the policy nor K
+module _ (policy k : ℕ) (length references : Changed ℕ) (places depths counts : Changed (List ℕ)) where
   abbrev pub sessionAtEntry : Lent
-  sessionAtEntry =
-      sessionNow (policy .entry) (k .entry) (length .entry) (references .entry) (places .entry) (depths .entry) (counts .entry)
+  sessionAtEntry = partsNow policy k (length .entry) (references .entry) (places .entry) (depths .entry) (counts .entry)
 
   abbrev pub sessionAtExit : Lent
-  sessionAtExit =
-      sessionNow (policy .exit) (k .exit) (length .exit) (references .exit) (places .exit) (depths .exit) (counts .exit)
+  sessionAtExit = partsNow policy k (length .exit) (references .exit) (places .exit) (depths .exit) (counts .exit)

@@ -1,7 +1,9 @@
--- An answer told in numbers: the rules' number, 0 for "no refusal", and the place (rule A1).
-use Rattle.rules.specs.Refusals.{numberOf, placeOf}
+-- An answer told in numbers that has a number to give: 0 and that number, or the refusal's number and place (rule A1).
+use Prim.Native.Nat.{ℕ}
+use Rattle.rules.specs.Told.{Told, told, toldOf}
 use Rattle.rules.specs.declared.Answer.{Answer}
-use Rattle.exports.specs.declared.Told.{Told}
+use Rattle.rules.specs.declared.Answer.the-variants.{Accepted, Refused}
 
-abbrev pub toldOf : Answer → Told
-toldOf a = record { number = numberOf a; place = placeOf a }
+abbrev pub toldWith : Answer → ℕ → Told
+toldWith Accepted n = told 0 n
+toldWith (Refused r) n = toldOf (Refused r)

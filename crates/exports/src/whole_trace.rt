@@ -1,20 +1,28 @@
 // Whole traces, and the list of a trace, for callers in C and Rust.
 ghost use mathlib.Core.List.{map};
 ghost use mathlib.Core.Path.{_≡_};
+ghost use Rattle.rules.specs.Told.{told};
 ghost use Rattle.exports.specs.Trace.{CountTold, ListTold, pageNumber};
-use crate::Told;
-use crate::in_numbers;
+use crate::tell;
 use rules::Answer;
 use rules::CAPACITIES;
 use rules::Page;
 
-// Counts the hits of a trace at each capacity from 1 to `k` into the first `k` entries of `hits`.
+// Counts the hits of a trace at each capacity from 1 to `k` into the first `k` entries of `hits`. The value is 0, or the
+// refusal's place.
 #[no_mangle]
-pub extern "C" fn musselrung_count(trace: &[u16], policy: u8, k: usize, hits: &mut [u32]) -> Told
-    ensures { λ r. ⌜ CountTold (now (trace .entry)) policy k (now (hits .entry)) (now (hits .exit)) r ⌝ }
+pub extern "C" fn musselrung_count(
+    trace: &[u16],
+    policy: u32,
+    k: usize,
+    hits: &mut [u32],
+    value: &mut usize,
+) -> u32
+    ensures { λ r. ⌜ CountTold (now (trace .entry)) policy k
+        (now (hits .entry)) (now (hits .exit)) (told r (now (value .exit))) ⌝ }
 {
-    let answer = count::count(trace, policy, k, hits);
-    in_numbers(answer)
+    let answer = count::count(trace, rules::byte_of(policy), k, hits);
+    tell(answer, value)
 }
 
 // The page numbers of places.
@@ -31,28 +39,29 @@ pub(crate) fn page_numbers(shown: [Page; CAPACITIES]) -> [u16; CAPACITIES]
     numbers
 }
 
-// The list of a trace after its first `t` references: its places, and how many are in use.
+// The list of a trace after its first `t` references: its places, and as the value how many are in use, or the refusal's
+// place.
 #[no_mangle]
 pub extern "C" fn musselrung_list(
     trace: &[u16],
-    policy: u8,
+    policy: u32,
     k: usize,
     t: usize,
     places: &mut [u16; CAPACITIES],
-    length: &mut usize,
-) -> Told
+    value: &mut usize,
+) -> u32
     ensures { λ r. ⌜ ListTold (now (trace .entry)) policy k t
-        (now (places .entry)) (now (length .entry)) (now (places .exit)) (now (length .exit)) r ⌝ }
+        (now (places .entry)) (now (places .exit)) (told r (now (value .exit))) ⌝ }
 {
-    let listed = count::list(trace, policy, k, t);
+    let listed = count::list(trace, rules::byte_of(policy), k, t);
     let answer = listed.answer;
     let shown = listed.places;
     match answer {
-        Answer::Refused(r) => in_numbers(Answer::Refused(r)),
+        Answer::Refused(r) => tell(Answer::Refused(r), value),
         Answer::Accepted => {
             *places = page_numbers(shown);
-            *length = listed.length;
-            in_numbers(Answer::Accepted)
+            *value = listed.length;
+            0
         }
     }
 }

@@ -33,7 +33,8 @@ use Rattle.session.specs.declared.Started.the-variants as started
 use Rattle.session.specs.declared.Referenced.{Referenced}
 use Rattle.session.specs.declared.Asked.{Asked}
 use Rattle.session.specs.History.{startAnswer, acceptedOf, depthOf, hitsNow}
-use Rattle.session.specs.Memory.{Value, Depths, Gives, Alive, Counting}
+use Rattle.session.specs.Lent.{lentOf}
+use Rattle.session.specs.Memory.{Value, Depths, Gives}
 use Rattle.session.specs.Answers.{Starting, Referring, depthAs}
 use Rattle.session.specs.Reads.{HitsRead}
 use Rattle.session.specs.ReferLaws.{start-bounds, accepted-all, accepted-few}
@@ -53,16 +54,10 @@ pub along-start : {s : Session} {trace places depths counts : List ℕ} → Refe
     → Along s trace 0 s places depths counts
 along-start asked = record { inside = omega arith; pages-only = tt; gives = asked .fresh; ahead = refl }
 
--- the session may be asked for one more
-pub along-alive : {s now : Session} {trace places depths counts : List ℕ} {i : ℕ} → Along s trace i now places depths counts
-    → Alive now places depths counts
-along-alive {s} {trace = trace} {i = i} a =
-    record { policy = s .policy; k = s .k; calls = before trace i; gives = a .gives }
-
 module _ {s now : Session} {trace places depths counts places′ depths′ counts′ : List ℕ} {i : ℕ} {r : Referenced}
     (few : length trace ≤ references)
     (a : Along s trace i now places depths counts) (more : i < length trace)
-    (done : Referring now (getD trace i 0) places depths counts places′ depths′ counts′ r) where
+    (done : Referring (lentOf now places depths counts) (getD trace i 0) (lentOf (r .session) places′ depths′ counts′) (r .depth)) where
   so-far : acceptedOf (before trace i) ≡ before trace i
   so-far = accepted-all (before trace i) (a .pages-only) (omega (arith, before-length trace i (a .inside)))
 
@@ -116,7 +111,7 @@ module _ {s : Session} {depths : List ℕ} {c : ℕ} {asked : Asked} (inside : c
       ap numberIn (read .hits-are policy k calls v d)
       ∙ rw (le-leb 1 (c + 1) (omega arith), le-leb (c + 1) k (omega (arith, v .k-is)))
 
-  pub number-fits : {number : ℕ} → number ≡ numberIn asked → Counting s depths → number ≤ references
+  pub number-fits : {number : ℕ} {hits : List ℕ} → number ≡ numberIn asked → Readable s depths hits → number ≤ references
   number-fits told a =
       omega (
         arith,
@@ -172,7 +167,11 @@ module _ {s : Session} {places depths counts : List ℕ} (only-started : OnlySta
         drive-readable =
             let g = whole in
             record {
-              counting = record { policy = s .policy; k = s .k; calls = reverse trace; value = g .value; tallied = g .tallied };
+              policy = s .policy;
+              k = s .k;
+              calls = reverse trace;
+              value = g .value;
+              tallied = g .tallied;
               room = omega (arith, g .value .k-is);
             }
 

@@ -13,7 +13,7 @@ use Rattle.session.specs.declared.Depth.the-variants as depth
 use Rattle.session.specs.declared.Asked.{Asked}
 use Rattle.session.specs.declared.Asked.the-variants as asked
 use Rattle.session.specs.History.{hitsNow}
-use Rattle.session.specs.Memory.{Value, Depths, Counting, Gives}
+use Rattle.session.specs.Memory.{Value, Depths, Gives}
 use Rattle.replay.specs.declared.Progress.{Progress}
 
 abbrev pub refusedIn : Depth → Bool
@@ -38,8 +38,13 @@ pub record Followed (s : Session) (trace places depths counts : List ℕ) (r : P
   pub accepted-is : r .accepted ≡ firstBad 0 trace
   pub gives : r .accepted ≡ length trace → Gives (s .policy) (s .k) (reverse trace) (r .session) places depths counts
 
+-- some history gives the session, so that its hits are few enough for the table
 pub record Readable (s : Session) (depths hits : List ℕ) : Type 0 where
-  pub counting : Counting s depths
+  pub policy : ℕ
+  pub k : ℕ
+  pub calls : List ℕ
+  pub value : Value policy k calls s
+  pub tallied : Depths policy k calls depths
   pub room : s .k ≤ length hits
 
 -- the hits at the capacities 1 to n in front, for every history that gives the session, and behind them what stood there

@@ -6,11 +6,11 @@ pub mod Refusals
 pub mod Lists
 pub mod Lent
 pub mod Told
+pub mod AllBelow
 -- A marked case, for the table of all cases:
 pub mod Case
 -- Laws:
 pub mod Cases
-pub mod AllBelow
 pub mod AnswerLaws
 pub mod FirstBad
 pub mod TableLaws

@@ -1,8 +1,8 @@
 -- What each call of a session answers and leaves behind, as functions of what it was given.
 use Prim.Native.Nat.{ℕ, suc}
 use mathlib.Core.Path.{_≡_}
-use mathlib.Core.List.{List, [], _∷_}
-use lib.ListN.{replicate}
+use mathlib.Core.List.{List, _∷_}
+use lib.ListN.{length, replicate}
 use Rattle.rules.specs.Limits.{capacities, pages}
 use Rattle.rules.specs.Refusals.{whenAccepted}
 use Rattle.rules.specs.declared.Answer.{Answer}
@@ -14,7 +14,9 @@ use Rattle.session.specs.declared.Depth.{Depth}
 use Rattle.session.specs.declared.Depth.the-variants as depths
 use Rattle.session.specs.declared.Referenced.{Referenced}
 use Rattle.session.specs.History.{startAnswer, referenceAnswer, acceptedOf, depthOf}
-use Rattle.session.specs.Memory.{Gives}
+use Rattle.session.specs.Lent.{Lent}
+use Rattle.session.specs.Memory.{Given}
+use Rattle.session.specs.AnyMemory.{depthIn, afterReference}
 
 -- a fresh session, or the refusal and no session
 abbrev pub startedAs : Answer → Session → Started
@@ -39,10 +41,12 @@ depthAs (Refused r) d = depths.Refused r
 abbrev pub refusedWith : Session → ℕ → Referenced
 refusedWith s number = record { depth = depths.Refused (record { number = number; place = 0 }); session = s }
 
--- a reference answers its depth, and gives the session with one call more
-pub record Referring (s : Session) (page : ℕ) (places depths counts places′ depths′ counts′ : List ℕ)
-    (r : Referenced) : Type 0 where
-  pub answer : (policy k : ℕ) (calls : List ℕ) → Gives policy k calls s places depths counts
-      → r .depth ≡ depthAs (referenceAnswer (acceptedOf calls) page) (depthOf policy k calls page)
-  pub next : (policy k : ℕ) (calls : List ℕ) → Gives policy k calls s places depths counts
-      → Gives policy k (page ∷ calls) (r .session) places′ depths′ counts′
+-- a reference answers its depth, and leaves the session with one call more
+pub record Referring (before : Lent) (page : ℕ) (after : Lent) (r : Depth) : Type 0 where
+  -- in any memory
+  pub depth-is : r ≡ depthAs (referenceAnswer (before .value .references) page) (depthIn before page)
+  pub memory-is : after ≡ afterReference before page
+  -- in memory that a start and calls gave
+  pub answer : (policy k : ℕ) (calls : List ℕ) → Given policy k calls before
+      → r ≡ depthAs (referenceAnswer (length (acceptedOf calls)) page) (depthOf policy k calls page)
+  pub next : (policy k : ℕ) (calls : List ℕ) → Given policy k calls before → Given policy k (page ∷ calls) after

@@ -1,7 +1,7 @@
 -- The demands, of a session's own answers (docs/RULES.md, D1 to D3, A3, A5, A6): whatever history gives the session.
 use Prim.Native.Nat.{ℕ, _+_, _≤_}
 use native.Mathlib.Omega.{arith}
-use mathlib.Core.Path.{_≡_, refl, sym, _∙_}
+use mathlib.Core.Path.{_≡_, sym, _∙_}
 use mathlib.Core.List.{List, [], _∷_, map, reverse}
 use lib.ListN.{length, take, getD}
 use borrow.Author.Tests.{le-leb}
@@ -18,60 +18,42 @@ use Rattle.theory.specs.Theorem.{list-is-cache, hit-by-depth, hits-and-misses, 
 use Rattle.kept.specs.Shown.{placesOf, pagesShown, shown-back, zero-past}
 use Rattle.session.specs.declared.Session.{Session}
 use Rattle.session.specs.declared.Depth.the-variants as answers
-use Rattle.session.specs.declared.Referenced.{Referenced}
+use Rattle.session.specs.declared.Depth.{Depth}
 use Rattle.session.specs.declared.Listing.{Listing}
 use Rattle.session.specs.declared.Asked.the-variants.{Number}
 use Rattle.session.specs.History.{acceptedOf, listNow, depthOf, referenceAnswer, capacityAnswer}
-use Rattle.session.specs.Memory.{Value, Places, Depths, Gives}
+use Rattle.session.specs.Lent.{Lent}
+use Rattle.session.specs.Memory.{Value, Places, Depths, Given}
+use Rattle.session.specs.AnyMemory.{depthIn, afterReference}
 use Rattle.session.specs.Answers.{Referring, depthAs}
 use Rattle.session.specs.Reads.{ListRead, ReferencesRead, HitsRead, MissesRead, askedAs}
-use Rattle.session.specs.Promises.{gives-unique}
 
--- a call that adds nothing to the references accepted leaves the session and its tables as they were
-same-accepted : {policy k page : ℕ} {calls : List ℕ} {s s′ : Session} {p d c p′ d′ c′ : List ℕ}
-    → acceptedOf (page ∷ calls) ≡ acceptedOf calls
-    → Gives policy k calls s p d c → Gives policy k (page ∷ calls) s′ p′ d′ c′ → (s′ ≡ s) × (p′ ≡ p) × (d′ ≡ d) × (c′ ≡ c)
-same-accepted {policy} {k} e a b =
-    gives-unique
-    (record {
-      value =
-          record {
-            started = b .value .started;
-            policy-is = b .value .policy-is;
-            k-is = b .value .k-is;
-            length-is = rw e at (b .value .length-is);
-            references-are = rw e at (b .value .references-are);
-          };
-      list = record { places-are = rw e at (b .list .places-are) };
-      tallied = record { depths-are = rw e at (b .tallied .depths-are) };
-      counted = record { counts-are = rw e at (b .counted .counts-are) };
-    }) a
+-- A3: a reference that was answered with a refusal leaves all memory as it was, whatever it was
+pub referenced-keeps : {before after : Lent} {page : ℕ} {r : Depth} {x : Refusal} → Referring before page after r
+    → r ≡ answers.Refused x → after ≡ before
+unfolding afterReference
+referenced-keeps {before} {after} {page} {r} {x} f e =
+    by-answer (referenceAnswer (before .value .references) page) _ (f .depth-is) (f .memory-is)
+  where
+    by-answer : (a : Answer) (then : Lent) → r ≡ depthAs a (depthIn before page) → after ≡ whenAccepted a then before
+        → after ≡ before
+    by-answer Accepted then h left =
+        let never : answers.Refused x ≡ answers.Accepted (depthIn before page) = sym e ∙ h in
+        let z : _≡_ {A = ℕ} 0 1 = cc in
+        absurd (omega arith)
+    by-answer (Refused y) then h left = left
 
 -- what a reference answers says whether it was accepted
-module _ {policy k page : ℕ} {calls : List ℕ} {s : Session} {p q n p′ q′ n′ : List ℕ} {r : Referenced}
-    (g : Gives policy k calls s p q n) (f : Referring s page p q n p′ q′ n′ r) where
-  -- A3: a refusal leaves the session and its tables as they were
-  pub referenced-keeps : {x : Refusal} → r .depth ≡ answers.Refused x → (r .session ≡ s) × (p′ ≡ p) × (q′ ≡ q) × (n′ ≡ n)
-  unfolding acceptedOf
-  referenced-keeps {x} e =
-      same-accepted (none (referenceAnswer (acceptedOf calls) page) (f .answer policy k calls g)) g (f .next policy k calls g)
-    where
-      none : (a : Answer) → r .depth ≡ depthAs a (depthOf policy k calls page)
-          → whenAccepted a (page ∷ acceptedOf calls) (acceptedOf calls) ≡ acceptedOf calls
-      none Accepted h =
-          let never : answers.Refused x ≡ answers.Accepted (depthOf policy k calls page) = sym e ∙ h in
-          let z : _≡_ {A = ℕ} 0 1 = cc in
-          absurd (omega arith)
-      none (Refused y) h = refl
-
+module _ {policy k page : ℕ} {calls : List ℕ} {before after : Lent} {r : Depth}
+    (g : Given policy k calls before) (f : Referring before page after r) where
   -- D3: a depth is a hit at C exactly if the plain cache of C frames held the page just before the reference
-  pub referenced-hit : {d : ℕ} → r .depth ≡ answers.Accepted d → (c : ℕ) → 1 ≤ c → c ≤ k
+  pub referenced-hit : {d : ℕ} → r ≡ answers.Accepted d → (c : ℕ) → 1 ≤ c → c ≤ k
       → within d c ≡ holds page (cacheAfter (policyOf policy) c (acceptedOf calls) [])
   referenced-hit {d} e c low high =
-      rw (depth-is (referenceAnswer (acceptedOf calls) page) (f .answer policy k calls g))
+      rw (depth-is (referenceAnswer (length (acceptedOf calls)) page) (f .answer policy k calls g))
       (hit-by-depth (policyOf policy) (policy-order policy) c k low high page (acceptedOf calls) [])
     where
-      depth-is : (a : Answer) → r .depth ≡ depthAs a (depthOf policy k calls page) → d ≡ depthOf policy k calls page
+      depth-is : (a : Answer) → r ≡ depthAs a (depthOf policy k calls page) → d ≡ depthOf policy k calls page
       depth-is Accepted h = let same : answers.Accepted d ≡ answers.Accepted (depthOf policy k calls page) = sym e ∙ h in cc
       depth-is (Refused x) h =
           let never : answers.Accepted d ≡ answers.Refused x = sym e ∙ h in

@@ -1,8 +1,8 @@
--- For whoever drives a session: an accepted start gives one, a reference gives one again, and every read may be asked of it.
+-- For whoever drives a session: what a start answered, and that an accepted one gives a session with no calls.
 use Prim.Native.Nat.{ℕ}
 use native.Mathlib.Omega.{arith}
 use mathlib.Core.Path.{_≡_, refl, sym, _∙_}
-use mathlib.Core.List.{List, [], _∷_}
+use mathlib.Core.List.{List, []}
 use Rattle.rules.specs.declared.Refusal.{Refusal}
 use Rattle.rules.specs.declared.Answer.{Answer}
 use Rattle.rules.specs.declared.Answer.the-variants.{Accepted, Refused}
@@ -10,10 +10,9 @@ use Rattle.session.specs.declared.Session.{Session}
 use Rattle.session.specs.declared.Started.{Started}
 use Rattle.session.specs.declared.Started.the-variants as started
 use Rattle.session.specs.declared.Started.the-variants.{Begun}
-use Rattle.session.specs.declared.Referenced.{Referenced}
 use Rattle.session.specs.History.{startAnswer}
-use Rattle.session.specs.Memory.{Gives, Alive, Valued, Listable, Counting}
-use Rattle.session.specs.Answers.{Starting, Referring, startedAs, fresh}
+use Rattle.session.specs.Memory.{Gives}
+use Rattle.session.specs.Answers.{Starting, startedAs, fresh}
 use Rattle.session.specs.StartLaws.{start-gives}
 
 module _ {policy k : ℕ} {places depths counts places′ depths′ counts′ : List ℕ} {r : Started}
@@ -47,21 +46,3 @@ module _ {policy k : ℕ} {places depths counts places′ depths′ counts′ : 
   -- an accepted start gives a session with no calls
   pub begun-gives : {s : Session} → r ≡ Begun s → Gives policy k [] s places′ depths′ counts′
   begun-gives e = rw (begun e .1) (start-gives p (begun e .0))
-
-  pub alive-begun : {s : Session} → r ≡ Begun s → Alive s places′ depths′ counts′
-  alive-begun e = record { policy = policy; k = k; calls = []; gives = begun-gives e }
-
-pub alive-next : {s : Session} {page : ℕ} {places depths counts places′ depths′ counts′ : List ℕ} {r : Referenced}
-    → Alive s places depths counts
-    → Referring s page places depths counts places′ depths′ counts′ r → Alive (r .session) places′ depths′ counts′
-alive-next {s} {page} a p =
-    record { policy = a .policy; k = a .k; calls = page ∷ a .calls; gives = p .next (a .policy) (a .k) (a .calls) (a .gives) }
-
-pub listable : {s : Session} {places depths counts : List ℕ} → Alive s places depths counts → Listable s places
-listable a = record { policy = a .policy; k = a .k; calls = a .calls; value = a .gives .value; list = a .gives .list }
-
-pub counting : {s : Session} {places depths counts : List ℕ} → Alive s places depths counts → Counting s depths
-counting a = record { policy = a .policy; k = a .k; calls = a .calls; value = a .gives .value; tallied = a .gives .tallied }
-
-pub valued : {s : Session} {places depths counts : List ℕ} → Alive s places depths counts → Valued s
-valued a = record { policy = a .policy; k = a .k; calls = a .calls; value = a .gives .value }

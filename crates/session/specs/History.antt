@@ -19,10 +19,10 @@ startAnswer policy k =
     (refuseIf (not (isCapacity k)) badLimit
     Accepted)
 
--- O4: 6, 3, of a session that has accepted `accepted`
-abbrev pub referenceAnswer : List ℕ → ℕ → Answer
+-- O4: 6, 3, of a session that has accepted so many
+abbrev pub referenceAnswer : ℕ → ℕ → Answer
 referenceAnswer accepted page =
-    refuseIf (leb references (length accepted)) sessionFull
+    refuseIf (leb references accepted) sessionFull
     (refuseIf (leb pages page) badPage
     Accepted)
 
@@ -30,7 +30,7 @@ referenceAnswer accepted page =
 unfoldable pub acceptedOf : List ℕ → List ℕ
 acceptedOf [] = []
 acceptedOf (page ∷ calls) =
-    whenAccepted (referenceAnswer (acceptedOf calls) page) (page ∷ acceptedOf calls) (acceptedOf calls)
+    whenAccepted (referenceAnswer (length (acceptedOf calls)) page) (page ∷ acceptedOf calls) (acceptedOf calls)
 
 -- S2: the list, and the hits and misses at a capacity, after the calls
 abbrev pub listNow : ℕ → ℕ → List ℕ → List ℕ

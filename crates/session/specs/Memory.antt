@@ -8,6 +8,7 @@ use Rattle.rules.specs.declared.Answer.the-variants.{Accepted}
 use Rattle.kept.specs.Memory.{placesAfter, depthsAfter, countsAfter}
 use Rattle.session.specs.declared.Session.{Session}
 use Rattle.session.specs.History.{startAnswer, acceptedOf, listNow}
+use Rattle.session.specs.Lent.{Lent}
 
 -- the small value
 pub record Value (policy k : ℕ) (calls : List ℕ) (s : Session) : Type 0 where
@@ -36,30 +37,6 @@ pub record Gives (policy k : ℕ) (calls : List ℕ) (s : Session) (places depth
   pub tallied : Depths policy k calls depths
   pub counted : Counts policy calls counts
 
--- some start and some calls give them: all that a call asks
-pub record Alive (s : Session) (places depths counts : List ℕ) : Type 0 where
-  pub policy : ℕ
-  pub k : ℕ
-  pub calls : List ℕ
-  pub gives : Gives policy k calls s places depths counts
-
--- the same of the parts that a read is lent
-pub record Valued (s : Session) : Type 0 where
-  pub policy : ℕ
-  pub k : ℕ
-  pub calls : List ℕ
-  pub value : Value policy k calls s
-
-pub record Listable (s : Session) (places : List ℕ) : Type 0 where
-  pub policy : ℕ
-  pub k : ℕ
-  pub calls : List ℕ
-  pub value : Value policy k calls s
-  pub list : Places policy k calls places
-
-pub record Counting (s : Session) (depths : List ℕ) : Type 0 where
-  pub policy : ℕ
-  pub k : ℕ
-  pub calls : List ℕ
-  pub value : Value policy k calls s
-  pub tallied : Depths policy k calls depths
+-- the same of the memory as one
+abbrev pub Given : ℕ → ℕ → List ℕ → Lent → Type 0
+Given policy k calls m = Gives policy k calls (m .value) (m .places) (m .depths) (m .counts)

@@ -43,7 +43,7 @@ module _ (calls : List ℕ) (page : ℕ) where
   accepted-bad h p = rw (lt-leb references (length (acceptedOf calls)) h, le-leb pages page p)
 
   -- the three ways in which a reference can go
-  three-ways : {A : Type 0} → (references ≤ length (acceptedOf calls) → A)
+  pub three-ways : {A : Type 0} → (references ≤ length (acceptedOf calls) → A)
       → (length (acceptedOf calls) < references → pages ≤ page → A)
       → (length (acceptedOf calls) < references → page < pages → A) → A
   three-ways full bad fine =

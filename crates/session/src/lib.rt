@@ -1,11 +1,12 @@
 // A session: one reference at a time, under LRU or LFU, readable at any moment. Its state is a small value beside three tables
 // that the caller lends, so that a reference copies no table; what they hold together is a function of the session's history
-// (specs/Memory.antt), and that some history gives them is all that a call asks.
+// (specs/Memory.antt). No call asks anything of them: it says what it makes of any memory (specs/AnyMemory.antt).
 ghost use mathlib.Core.Path.{_≡_};
 ghost use Rattle.session.specs.Answers.{Starting, Referring, refusedWith};
-ghost use Rattle.session.specs.Memory.{Alive};
+ghost use Rattle.session.specs.Lent.{lentOf};
 
 mod reads;
+mod tests;
 
 use kept::DEPTHS;
 pub use reads::hits;
@@ -22,6 +23,9 @@ use rules::Page;
 use rules::REFERENCES;
 use rules::Refusal;
 use rules::SESSION_FULL;
+pub use tests::adds_up;
+pub use tests::countable;
+pub use tests::fits;
 
 // The part of a session that is passed by value.
 pub struct Session {
@@ -120,10 +124,9 @@ pub fn refer(
     depths: &mut [u32; DEPTHS],
     counts: &mut [u16; PAGES as usize],
 ) -> Referenced
-    requires { ⌜ Alive s (now places) (now depths) (now counts) ⌝ }
-    ensures { λ r. ⌜ Referring s (page .0)
-        (now (places .entry)) (now (depths .entry)) (now (counts .entry))
-        (now (places .exit)) (now (depths .exit)) (now (counts .exit)) r ⌝ }
+    ensures { λ r. ⌜ Referring
+        (lentOf s (now (places .entry)) (now (depths .entry)) (now (counts .entry))) (page .0)
+        (lentOf (r .session) (now (places .exit)) (now (depths .exit)) (now (counts .exit))) (r .depth) ⌝ }
 {
     if REFERENCES <= s.references {
         return refused(s, SESSION_FULL);

@@ -1,6 +1,5 @@
 // Reading a session changes nothing: the list, the references accepted, the hits and misses at a capacity.
 ghost use Rattle.session.specs.Reads.{ListRead, ReferencesRead, HitsRead, MissesRead};
-ghost use Rattle.session.specs.Memory.{Valued, Listable, Counting};
 use crate::Asked;
 use crate::Listing;
 use crate::Session;
@@ -11,7 +10,6 @@ use rules::Refusal;
 
 // The list as it stands.
 pub fn list(s: Session, places: &[u32; CAPACITIES]) -> Listing
-    requires { ⌜ Listable s (now places) ⌝ }
     ensures { λ r. ⌜ ListRead s (now (places .entry)) r ⌝ }
 {
     let length = s.length;
@@ -23,7 +21,6 @@ pub fn list(s: Session, places: &[u32; CAPACITIES]) -> Listing
 
 // How many references were accepted.
 pub fn references(s: Session) -> usize
-    requires { ⌜ Valued s ⌝ }
     ensures { λ r. ⌜ ReferencesRead s r ⌝ }
 {
     s.references
@@ -31,7 +28,6 @@ pub fn references(s: Session) -> usize
 
 // How many of them were hits at capacity `c`.
 pub fn hits(s: Session, depths: &[u32; DEPTHS], c: usize) -> Asked
-    requires { ⌜ Counting s (now depths) ⌝ }
     ensures { λ r. ⌜ HitsRead s (now (depths .entry)) c r ⌝ }
 {
     if c < 1 {
@@ -51,7 +47,6 @@ pub fn hits(s: Session, depths: &[u32; DEPTHS], c: usize) -> Asked
 
 // How many of them were misses at capacity `c`.
 pub fn misses(s: Session, depths: &[u32; DEPTHS], c: usize) -> Asked
-    requires { ⌜ Counting s (now depths) ⌝ }
     ensures { λ r. ⌜ MissesRead s (now (depths .entry)) c r ⌝ }
 {
     if c < 1 {
@@ -66,5 +61,10 @@ pub fn misses(s: Session, depths: &[u32; DEPTHS], c: usize) -> Asked
             place: 0,
         });
     }
-    Asked::Number(s.references - kept::sum(depths, c))
+    // a table of other memory may say more hits than references
+    let hits = kept::sum(depths, c);
+    if s.references < hits {
+        return Asked::Number(0);
+    }
+    Asked::Number(s.references - hits)
 }

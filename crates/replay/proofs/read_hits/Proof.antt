@@ -24,9 +24,7 @@ add-hits : tie.Need-add-hits Inv-loop μ-loop
 add-hits c = search needs
 
 hits-requires : tie.Need-hits-requires Inv-loop μ-loop
-hits-requires c κs =
-    let looped = c .before .before in
-    looped .before .before .pre .counting
+hits-requires c κs = search needs
 
 number-requires : tie.Need-number-requires Inv-loop μ-loop
 number-requires c κs = search needs
@@ -35,7 +33,7 @@ cast-hits : tie.Need-cast-hits Inv-loop μ-loop
 cast-hits c =
     let looped = c .before .before .before .before in
     let asked = looped .before .before in
-    omega (arith, number-fits (omega arith) (c .before .hits .ensures) (c .number .ensures) (asked .pre .counting))
+    omega (arith, number-fits (omega arith) (c .before .hits .ensures) (c .number .ensures) (asked .pre))
 
 mul-hits : tie.Need-mul-hits Inv-loop μ-loop
 mul-hits c = search needs

@@ -4,7 +4,7 @@ use native.Mathlib.Omega.{arith}
 use mathlib.Core.Path.{sym, _∙_}
 use lib.ListN.{length}
 use borrow.Author.Needs.{needs}
-use Rattle.replay.specs.ReplayLaws.{Along, along-start, along-alive, along-next, along-stop, along-end}
+use Rattle.replay.specs.ReplayLaws.{Along, along-start, along-next, along-stop, along-end}
 use Rattle.replay.proofs.refer_all.Statement.{statement}
 use Rattle.replay.proofs.refer_all.Tie as tie
 
@@ -25,9 +25,7 @@ shared-slice-read-t14 : tie.Need-shared-slice-read-t14 Inv-loop μ-loop
 shared-slice-read-t14 c = search needs
 
 refer-requires : tie.Need-refer-requires Inv-loop μ-loop
-refer-requires c κs =
-    let looped = c .before .before .before .before .before in
-    along-alive (looped .loop .inv)
+refer-requires c κs = search needs
 
 was-refused-requires : tie.Need-was-refused-requires Inv-loop μ-loop
 was-refused-requires c κs = search needs

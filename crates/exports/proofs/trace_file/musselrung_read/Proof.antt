@@ -1,4 +1,4 @@
--- `exports::trace_file::musselrung_read`: the reader's promise, its answer told in numbers.
+-- The reader's promise, its answer told in numbers.
 use borrow.Author.Needs.{needs}
 use Rattle.exports.specs.FileLaws.{accepted, refused}
 use Rattle.exports.proofs.trace_file.musselrung_read.Statement.{statement}
@@ -16,26 +16,26 @@ element-write-counts c = search needs
 element-write-counts-2 : tie.Need-element-write-counts-2
 element-write-counts-2 c = search needs
 
-in-numbers-requires : tie.Need-in-numbers-requires
-in-numbers-requires c κs = search needs
+tell-requires : tie.Need-tell-requires
+tell-requires c κs = search needs
 
 enum-known-reading-2 : tie.Need-enum-known-reading-2
 enum-known-reading-2 c = search needs
 
-in-numbers-requires-2 : tie.Need-in-numbers-requires-2
-in-numbers-requires-2 c κs = search needs
+tell-requires-2 : tie.Need-tell-requires-2
+tell-requires-2 c κs = search needs
 
 returns : tie.Need-returns
 returns c =
-    let taken = c .before .before in
+    let taken = c .before .before .before in
     let known = taken .reading .given in
-    accepted _ (known .0 .0) (taken .before .before .read .ensures) (known .1) (c .in-numbers .ensures)
+    accepted _ (known .0 .0) (taken .before .before .read .ensures) (known .1) (c .tell .ensures)
 
 returns-2 : tie.Need-returns-2
 returns-2 c =
-    let taken = c .before .before in
+    let taken = c .before .before .before in
     let known = taken .reading2 .given in
-    refused _ (known .0 .0) (taken .before .before .read .ensures) (known .1) (c .in-numbers2 .ensures)
+    refused _ (known .0 .0) (taken .before .before .read .ensures) (known .1) (c .tell2 .ensures)
 
 pub musselrung-read-spec : {M : Type 1} → statement M
 musselrung-read-spec =
@@ -45,8 +45,8 @@ musselrung-read-spec =
     enum-known-reading
     element-write-counts
     element-write-counts-2
-    in-numbers-requires
+    tell-requires
     enum-known-reading-2
-    in-numbers-requires-2
+    tell-requires-2
     returns
     returns-2)

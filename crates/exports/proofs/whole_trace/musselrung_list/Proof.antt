@@ -1,8 +1,12 @@
--- `exports::whole_trace::musselrung_list`: what `count::list` promises, told in numbers.
+-- What `count::list` promises, told in numbers.
 use borrow.Author.Needs.{needs}
+use Rattle.exports.specs.Narrow.{list-narrowed}
 use Rattle.exports.specs.TraceLaws.{list-refused, list-told}
 use Rattle.exports.proofs.whole_trace.musselrung_list.Statement.{statement}
 use Rattle.exports.proofs.whole_trace.musselrung_list.Tie as tie
+
+byte-of-requires : tie.Need-byte-of-requires
+byte-of-requires c κs = search needs
 
 list-requires : tie.Need-list-requires
 list-requires c κs = search needs
@@ -10,8 +14,8 @@ list-requires c κs = search needs
 enum-known-answer : tie.Need-enum-known-answer
 enum-known-answer c = search needs
 
-in-numbers-requires : tie.Need-in-numbers-requires
-in-numbers-requires c κs = search needs
+tell-requires : tie.Need-tell-requires
+tell-requires c κs = search needs
 
 enum-told : tie.Need-enum-told
 enum-told c = search needs
@@ -19,32 +23,30 @@ enum-told c = search needs
 page-numbers-requires : tie.Need-page-numbers-requires
 page-numbers-requires c κs = search needs
 
-in-numbers-requires-2 : tie.Need-in-numbers-requires-2
-in-numbers-requires-2 c κs = search needs
-
 returns : tie.Need-returns
 returns c =
-    let taken = c .before .before in
+    let taken = c .before .before .before in
     let listed = taken .before .before .before in
     let known = taken .answer .given in
-    list-refused (listed .list .ensures) _ _ (known .0 .0) (known .1) (c .in-numbers .ensures)
+    list-refused (list-narrowed (listed .before .byte-of .ensures) (listed .list .ensures)) _ (known .0 .0) (known .1)
+    (c .tell .ensures)
 
 returns-2 : tie.Need-returns-2
 returns-2 c =
-    let shown = c .before in
-    let taken = shown .before in
+    let taken = c .before in
     let listed = taken .before .before .before in
-    list-told (listed .list .ensures) _ _ (taken .enum-told .given .1) (c .in-numbers2 .ensures) (shown .page-numbers .ensures)
+    list-told (list-narrowed (listed .before .byte-of .ensures) (listed .list .ensures)) _ (taken .enum-told .given .1)
+    (c .page-numbers .ensures)
 
 pub musselrung-list-spec : {M : Type 1} → statement M
 musselrung-list-spec =
     tie.close
     (tie.spec
+    byte-of-requires
     list-requires
     enum-known-answer
-    in-numbers-requires
+    tell-requires
     enum-told
     page-numbers-requires
-    in-numbers-requires-2
     returns
     returns-2)
