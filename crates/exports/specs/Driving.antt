@@ -1,10 +1,11 @@
--- For whoever drives a session through the exported calls: what an accepted start leaves passes the tests of the other calls, and
--- so does what each of them leaves. What crate session proves of every memory that a start and calls gave says it for these.
+-- For whoever drives a session through the exported calls: what an accepted start leaves passes the tests of the other
+-- calls, and so does what each of them leaves. What crate session proves of every memory that a start and calls gave says
+-- it for these.
 use Prim.Native.Nat.{ℕ}
 use native.Mathlib.Omega.{arith}
 use mathlib.Core.Bool.{not, true}
 use mathlib.Core.Path.{_≡_, sym, _∙_}
-use mathlib.Core.List.{List, [], _∷_}
+use mathlib.Core.List.{List, []}
 use lib.Dec.{leb}
 use Rattle.rules.specs.Limits.{opt, isCapacity}
 use Rattle.rules.specs.Cases.{by-cases}
@@ -15,18 +16,27 @@ use Rattle.session.specs.History.{startAnswer}
 use Rattle.session.specs.Lent.{Lent}
 use Rattle.session.specs.Memory.{Given}
 use Rattle.session.specs.AnyMemory.{afterReference}
-use Rattle.session.specs.Tests.{fits, countable}
+use Rattle.session.specs.Tests.{fits, countable, sound}
 use Rattle.session.specs.StartLaws.{start-begun, start-gives}
 use Rattle.session.specs.TestLaws.{value-fits, value-countable, fits-after}
+use Rattle.session.specs.SoundLaws.{given-sound, sound-countable, countable-fits}
 use Rattle.exports.specs.Session.{startLent, StartTold, ReferTold}
 
 -- the tests of all calls
 pub record Passes (m : Lent) : Type 0 where
   pub numbers : fits (m .value) ≡ true
   pub depths : countable (m .value) (m .depths) ≡ true
+  pub whole : sound m ≡ true
 
 pub given-passes : {policy k : ℕ} {calls : List ℕ} {m : Lent} → Given policy k calls m → Passes m
-given-passes g = record { numbers = value-fits (g .value); depths = value-countable (g .value) (g .tallied) }
+given-passes g =
+    record { numbers = value-fits (g .value); depths = value-countable (g .value) (g .tallied); whole = given-sound g }
+
+-- what is sound passes the tests of all calls
+pub sound-passes : (m : Lent) → sound m ≡ true → Passes m
+sound-passes m e =
+    let adds = sound-countable m e in
+    record { numbers = countable-fits (m .value) (m .depths) adds .0; depths = adds; whole = e }
 
 -- no refusal of a start has number 0
 not-refused : (policy k : ℕ) → numberOf (startAnswer policy k) ≡ 0 → startAnswer policy k ≡ Accepted

@@ -5,8 +5,8 @@ pub mod Told
 pub mod Trace
 pub mod File
 pub mod Session
--- Laws: that the proved functions' promises give these, of numbers of 32 bits too, that two answers that meet one are equal, and
--- that what one call leaves passes the next one's test.
+-- Laws: that the proved functions' promises give these, of numbers of 32 bits too, that two answers that meet one are
+-- equal, and that what one call leaves passes the next one's test.
 pub mod Narrow
 pub mod TraceLaws
 pub mod FileLaws

@@ -1,5 +1,6 @@
--- C passes a policy and a page as 32 bits, and the proved functions take 8 and 16 (rule X1). A number that does not fit becomes
--- the largest that does, and both are past every limit: each promise of the narrowed number is one of the number itself.
+-- C passes a policy and a page as 32 bits, and the proved functions take 8 and 16 (rule X1). A number that does not fit
+-- becomes the largest that does, and both are past every limit: each promise of the narrowed number is one of the number
+-- itself.
 use Prim.Native.Nat.{ℕ, _≤_, min}
 use native.Mathlib.Omega.{arith}
 use mathlib.Core.Path.{_≡_, _∙_}
@@ -69,7 +70,8 @@ module _ {policy k : ℕ} where
       let s : Starting (min policy 255) k _ _ _ _ _ _ _ = rw cut at starting in
       record {
         answer =
-            s .answer ∙ narrow (λ p. startedAs (startAnswer p k) (fresh p k)) 255 policy (λ h. rw (le-leb opt policy (omega arith)));
+            s .answer
+            ∙ narrow (λ p. startedAs (startAnswer p k) (fresh p k)) 255 policy (λ h. rw (le-leb opt policy (omega arith)));
         places-are = s .places-are ∙ rw same;
         depths-are = s .depths-are ∙ rw same;
         counts-are = s .counts-are ∙ rw same;

@@ -1,5 +1,5 @@
--- What the exported calls of a session promise: in any memory, 40 and the memory as it was where the test fails, and what crate
--- session says of any memory where it passes; and in memory that a start and calls gave, what the rules say.
+-- What the exported calls of a session promise: in any memory, 40 and the memory as it was where the test fails, and what
+-- crate session says of any memory where it passes; and in memory that a start and calls gave, what the rules say.
 use Prim.Native.Nat.{ℕ, suc}
 use mathlib.Core.Bool.{cond}
 use mathlib.Core.Path.{_≡_}

@@ -1,5 +1,5 @@
--- What crate session answers, looked at by its cases, gives what the exported calls promise; and so does 40 where the test fails,
--- since no history gives memory that fails it.
+-- What crate session answers, looked at by its cases, gives what the exported calls promise; and so does 40 where the test
+-- fails, since no history gives memory that fails it.
 use Prim.Native.Nat.{ℕ, suc}
 use native.Mathlib.Omega.{arith}
 use mathlib.Core.Bool.{true, false}

@@ -9,6 +9,7 @@ ghost use Rattle.rules.specs.Told.{told, toldOf};
 
 mod report;
 mod session_reads;
+mod session_sound;
 mod sessions;
 mod trace_file;
 mod whole_trace;

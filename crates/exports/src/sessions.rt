@@ -60,7 +60,8 @@ pub extern "C" fn musselrung_session_start_parts(
     }
 }
 
-// One reference: 0 and its depth, or a refusal, which leaves the memory as it was. A reference writes neither the policy nor K.
+// One reference: 0 and its depth, or a refusal, which leaves the memory as it was. A reference writes neither the policy
+// nor K.
 #[no_mangle]
 pub extern "C" fn musselrung_session_refer_parts(
     policy: u8,

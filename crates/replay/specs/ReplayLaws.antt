@@ -57,7 +57,8 @@ along-start asked = record { inside = omega arith; pages-only = tt; gives = aske
 module _ {s now : Session} {trace places depths counts places′ depths′ counts′ : List ℕ} {i : ℕ} {r : Referenced}
     (few : length trace ≤ references)
     (a : Along s trace i now places depths counts) (more : i < length trace)
-    (done : Referring (lentOf now places depths counts) (getD trace i 0) (lentOf (r .session) places′ depths′ counts′) (r .depth)) where
+    (done : Referring (lentOf now places depths counts) (getD trace i 0)
+    (lentOf (r .session) places′ depths′ counts′) (r .depth)) where
   so-far : acceptedOf (before trace i) ≡ before trace i
   so-far = accepted-all (before trace i) (a .pages-only) (omega (arith, before-length trace i (a .inside)))
 

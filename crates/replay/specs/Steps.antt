@@ -32,8 +32,8 @@ pub record Referable (s : Session) (trace places depths counts : List ℕ) : Typ
   pub fresh : OnlyStarted s places depths counts
   pub few : length trace ≤ references
 
--- so many references were accepted: all before the first bad page. Where that is all of the trace, the trace is the session's
--- history
+-- so many references were accepted: all before the first bad page. Where that is all of the trace, the trace is the
+-- session's history
 pub record Followed (s : Session) (trace places depths counts : List ℕ) (r : Progress) : Type 0 where
   pub accepted-is : r .accepted ≡ firstBad 0 trace
   pub gives : r .accepted ≡ length trace → Gives (s .policy) (s .k) (reverse trace) (r .session) places depths counts

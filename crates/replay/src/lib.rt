@@ -1,6 +1,6 @@
-// How another crate uses `session`: a trace is replayed through one, reference by reference, and the hits are read off it. The
-// session and its tables are local; the trace is their history, and session's promises say what its answers are for a history.
-// The answer is that of `count` for the same trace.
+// How another crate uses `session`: a trace is replayed through one, reference by reference, and the hits are read off it.
+// The session and its tables are local; the trace is their history, and session's promises say what its answers are for a
+// history. The answer is that of `count` for the same trace.
 ghost use mathlib.Core.Path.{_≡_};
 ghost use Rattle.count.specs.Count.{Counted};
 ghost use Rattle.replay.specs.Replayed.{Replayed};

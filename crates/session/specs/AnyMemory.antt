@@ -1,5 +1,5 @@
--- What each call makes of the memory that it is lent, whatever stands there: a session needs no premise. What this is where a
--- start and calls gave the memory is said in Answers.antt and Reads.antt, for every such history.
+-- What each call makes of the memory that it is lent, whatever stands there: a session needs no premise. What this is where
+-- a start and calls gave the memory is said in Answers.antt and Reads.antt, for every such history.
 use Prim.Native.Nat.{ℕ, _+_, _-_, min}
 use mathlib.Core.List.{List}
 use Rattle.rules.specs.Limits.{capacities}

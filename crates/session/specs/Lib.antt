@@ -21,3 +21,4 @@ pub mod ReferAnswers
 pub mod ReadLaws
 pub mod TotalLaws
 pub mod TestLaws
+pub mod SoundLaws

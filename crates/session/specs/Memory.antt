@@ -1,5 +1,5 @@
--- What a session's value and its three tables hold after a history: all of it, place by place. The tables are those of a run over
--- the references accepted, with nothing still to come.
+-- What a session's value and its three tables hold after a history: all of it, place by place. The tables are those of a
+-- run over the references accepted, with nothing still to come.
 use Prim.Native.Nat.{ℕ}
 use mathlib.Core.Path.{_≡_}
 use mathlib.Core.List.{List, []}

@@ -1,5 +1,5 @@
--- The reads' promises: what a read makes of any memory is, in memory that a start and calls gave, what the rules say; and each
--- answer of the code is what it makes of the memory.
+-- The reads' promises: what a read makes of any memory is, in memory that a start and calls gave, what the rules say; and
+-- each answer of the code is what it makes of the memory.
 use Prim.Native.Nat.{ℕ, _-_, _≤_, _<_, min}
 use native.Mathlib.Omega.{arith}
 use mathlib.Core.Path.{_≡_, _∙_, ap}

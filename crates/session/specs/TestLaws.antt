@@ -1,12 +1,12 @@
 -- What the tests say, and that every session passes them: memory that a start and calls gave, and again after a reference.
-use Prim.Native.Nat.{ℕ, suc, _+_, _≤_, _<_, min, max}
+use Prim.Native.Nat.{ℕ, _≤_, _<_}
 use native.Mathlib.Omega.{arith}
 use mathlib.Core.Bool.{true}
-use mathlib.Core.Path.{_≡_, refl, ap, _∙_}
+use mathlib.Core.Path.{_≡_, refl}
 use mathlib.Core.List.{List, []}
-use lib.Dec.{eqb, leb, ltb}
-use lib.ListN.{length, take, length-take}
-use borrow.Author.Tests.{le-leb, lt-leb, lt-ltb, leb-true, leb-false, ltb-true, eq-eqb}
+use lib.Dec.{leb, ltb}
+use lib.ListN.{length, length-take}
+use borrow.Author.Tests.{le-leb, lt-ltb, leb-true, leb-false, ltb-true, eq-eqb}
 use Rattle.rules.specs.Limits.{capacities, references, pages, opt}
 use Rattle.rules.specs.Cases.{by-cases, clash}
 use Rattle.theory.specs.Policy.{policyOf}

@@ -2,6 +2,7 @@
 -- counts of its pages.
 use Prim.Native.Nat.{ℕ, zero, suc, _+_, _≤_, _<_}
 use native.Mathlib.Omega.{arith}
+use native.Mathlib.Numerals.{add-one}
 use mathlib.Core.Path.{_≡_, refl, _∙_}
 use mathlib.Core.List.{List, [], _∷_}
 use lib.Dec.{eqb, ltb}
@@ -21,9 +22,9 @@ use Rattle.session.specs.Tests.{total}
 
 pub total-step : (table : List ℕ) (n : ℕ) → total table (n + 1) ≡ total table n + getD table n 0
 unfolding total
-total-step table n = rw (native.Mathlib.Numerals.add-one n)
+total-step table n = rw (add-one n)
 
-zeros-total : (m n : ℕ) → total (replicate m 0) n ≡ 0
+pub zeros-total : (m n : ℕ) → total (replicate m 0) n ≡ 0
 unfolding total
 zeros-total m zero = refl
 zeros-total m (suc n) = rw (zeros-total m n, zeros-at m n)

@@ -1,11 +1,12 @@
-// A session: one reference at a time, under LRU or LFU, readable at any moment. Its state is a small value beside three tables
-// that the caller lends, so that a reference copies no table; what they hold together is a function of the session's history
-// (specs/Memory.antt). No call asks anything of them: it says what it makes of any memory (specs/AnyMemory.antt).
+// A session: one reference at a time, under LRU or LFU, readable at any moment. Its state is a small value beside three
+// tables that the caller lends, so that a reference copies no table; what they hold together is a function of the session's
+// history (specs/Memory.antt). No call asks anything of them: it says what it makes of any memory (specs/AnyMemory.antt).
 ghost use mathlib.Core.Path.{_≡_};
 ghost use Rattle.session.specs.Answers.{Starting, Referring, refusedWith};
 ghost use Rattle.session.specs.Lent.{lentOf};
 
 mod reads;
+mod soundness;
 mod tests;
 
 use kept::DEPTHS;
@@ -23,6 +24,7 @@ use rules::Page;
 use rules::REFERENCES;
 use rules::Refusal;
 use rules::SESSION_FULL;
+pub use soundness::sound;
 pub use tests::adds_up;
 pub use tests::countable;
 pub use tests::fits;

@@ -1,5 +1,5 @@
-// The tests that the exported calls make of a session that they are lent, since they cannot ask anything of it (rules X2, X3).
-// A session that a start and calls gave passes them (specs/TestLaws.antt).
+// The tests that the exported calls make of a session that they are lent, since they cannot ask anything of it (rules X2,
+// X3). A session that a start and calls gave passes them (specs/TestLaws.antt).
 ghost use Prim.Native.Nat.{suc, _<_};
 ghost use mathlib.Core.Path.{_≡_};
 ghost use Rattle.rules.specs.Limits.{capacities};

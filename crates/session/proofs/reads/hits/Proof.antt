@@ -1,5 +1,4 @@
 -- Each return is the answer of its case.
-use mathlib.Core.Path.{refl}
 use borrow.Author.Needs.{needs}
 use Rattle.session.specs.ReadLaws.{hits-read, low-refused, high-refused, within-answered}
 use Rattle.session.proofs.reads.hits.Statement.{statement}
