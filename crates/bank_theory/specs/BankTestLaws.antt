@@ -1,5 +1,5 @@
 -- The test of a row under banks (BankTest) is exact: lent memory passes it exactly if fresh banks and calls give it.
-use Prim.Native.Nat.{ℕ, _*_, _<_, _≤_}
+use Prim.Native.Nat.{ℕ, _+_, _-_, _*_, _<_, _≤_}
 use native.Mathlib.Omega.{arith}
 use mathlib.Core.Path.{_≡_, refl, sym, _∙_, ap, subst}
 use mathlib.Core.Bool.{Bool, true, false, cond}
@@ -20,7 +20,7 @@ use Rattle.bank_theory.specs.Banks.{Step, ofFrame, ofBank, bankOf, off, 
 use Rattle.bank_theory.specs.Banks.{freshBanks, banksUnder}
 use Rattle.bank_theory.specs.BankHistory.{Seen, seenThen, seenAfter}
 use Rattle.bank_theory.specs.BankPromise.{BankMemory, gatesOf, banksIn, gatedIn, StandsUnder}
-use Rattle.bank_theory.specs.BankTest.{gateSound, banksSound, BanksTested}
+use Rattle.bank_theory.specs.BankTest.{gateSound, bankSound, banksSound, BanksTested}
 use Rattle.bank_theory.specs.BankLaws.{bank-small, taken}
 use Rattle.bank_theory.specs.UnderBanks.{seenIn, same-seen}
 use Rattle.bank_theory.specs.Powered.{Powered, powered-after, each-open}
@@ -62,33 +62,45 @@ known-after (step ∷ history) =
     known-then (seenAfter history) step (powered-after history .long) (known-after history)
 
 -- what the test says of one gate
-record GateSays (gates states : List ℕ) (frame : ℕ) : Type 0 where
-  pub same : getD gates frame off ≡ getD gates (bankOf frame * bankFrames) off
+record GateSays (gates states : List ℕ) (first frame : ℕ) : Type 0 where
+  pub same : getD gates frame off ≡ getD gates first off
   pub known : getD gates frame off ≤ closing
   pub out : getD gates frame off ≡ off → stateOf states frame ≡ absent
 
-gate-says : (gates states : List ℕ) (frame : ℕ) → gateSound gates states frame ≡ true → GateSays gates states frame
+gate-says : (gates states : List ℕ) (first frame : ℕ) → gateSound gates states first frame ≡ true →
+    GateSays gates states first frame
 unfolding gateSound
-gate-says gates states frame e =
+gate-says gates states first frame e =
     let gate = getD gates frame off in
-    let first = getD gates (bankOf frame * bankFrames) off in
+    let bank = getD gates first off in
     let gone = eqb (stateOf states frame) absent in
-    let rest = and-right (eqb gate first) (cond (eqb gate off) gone (leb gate closing)) e in
+    let rest = and-right (eqb gate bank) (cond (eqb gate off) gone (leb gate closing)) e in
     record {
-      same = eqb-true gate first (and-left (eqb gate first) (cond (eqb gate off) gone (leb gate closing)) e);
+      same = eqb-true gate bank (and-left (eqb gate bank) (cond (eqb gate off) gone (leb gate closing)) e);
       known =
           by-cases (eqb gate off) (λ is. omega (arith, eqb-true gate off is))
           (λ other. leb-true gate closing (rw other at rest));
       out = λ is. eqb-true (stateOf states frame) absent (rw (eq-eqb gate off is) at rest);
     }
 
+-- the gate of a frame, in the test of its bank
+frame-gate : (gates states : List ℕ) → allBelow (bankSound gates states) Limits.banks ≡ true → (frame : ℕ) → frame < frames →
+    GateSays gates states (bankOf frame * bankFrames) frame
+unfolding bankSound
+frame-gate gates states all frame small =
+    let bank = bankOf frame in
+    let first = bank * bankFrames in
+    let n = frame - first in
+    let same : first + n ≡ frame = omega arith in
+    let here = all-at (bankSound gates states) Limits.banks bank (bank-small frame small) all in
+    let gate = all-at (λ i. gateSound gates states first (first + i)) bankFrames n (omega arith) here in
+    gate-says gates states first frame (rw same at gate)
+
 -- B1, B6: memory that passes holds what fresh banks and calls give
 module _ {m : BankMemory} (sized : SizedUnder m) (rowOk : rowSound (m .row) ≡ true)
-    (gatesOk : allBelow (gateSound (m .gates) (m .row .states)) frames ≡ true) where
-  abbrev at-gate : (frame : ℕ) → frame < frames → GateSays (m .gates) (m .row .states) frame
-  at-gate frame small =
-      gate-says (m .gates) (m .row .states) frame
-      (all-at (gateSound (m .gates) (m .row .states)) frames frame small gatesOk)
+    (gatesOk : allBelow (bankSound (m .gates) (m .row .states)) Limits.banks ≡ true) where
+  abbrev at-gate : (frame : ℕ) → frame < frames → GateSays (m .gates) (m .row .states) (bankOf frame * bankFrames) frame
+  at-gate = frame-gate (m .gates) (m .row .states) gatesOk
 
   -- a frame's gate is the state of its bank
   gate-bank : (frame : ℕ) → frame < frames → getD (m .gates) frame off ≡ bankState (banksIn (m .gates)) (bankOf frame)
@@ -124,7 +136,7 @@ module _ {m : BankMemory} (sized : SizedUnder m) (rowOk : rowSound (m .row) ≡ 
 pub sound-stands-under : {m : BankMemory} → SizedUnder m → banksSound m ≡ true → StandsUnder m
 unfolding banksSound
 sound-stands-under {m} sized e =
-    let gatesOk = allBelow (gateSound (m .gates) (m .row .states)) frames in
+    let gatesOk = allBelow (bankSound (m .gates) (m .row .states)) Limits.banks in
     gates-stand sized (and-left (rowSound (m .row)) gatesOk e) (and-right (rowSound (m .row)) gatesOk e)
 
 -- and what they give passes it
@@ -145,7 +157,7 @@ module _ {m : BankMemory} (stands : StandsUnder m) where
   gate-as frame small =
       ap (λ (l : List ℕ). getD l frame off) (stands .gated .spread) ∙ gate-is (banksIn (m .gates)) frame small
 
-  gate-passes : (frame : ℕ) → frame < frames → gateSound (m .gates) (m .row .states) frame ≡ true
+  gate-passes : (frame : ℕ) → frame < frames → gateSound (m .gates) (m .row .states) (bankOf frame * bankFrames) frame ≡ true
   unfolding gateSound
   gate-passes frame small =
       let gate = getD (m .gates) frame off in
@@ -158,10 +170,18 @@ module _ {m : BankMemory} (stands : StandsUnder m) where
       rw e (eq-eqb (stateOf (m .row .states) frame) absent (hasPower .empty frame small isOff)))
       (λ e. rw e (le-leb gate closing low)))
 
+  bank-passes : (bank : ℕ) → bank < Limits.banks → bankSound (m .gates) (m .row .states) bank ≡ true
+  unfolding bankSound
+  bank-passes bank small =
+      all-make (λ n. gateSound (m .gates) (m .row .states) (bank * bankFrames) (bank * bankFrames + n)) bankFrames
+      (λ n low. let frame = bank * bankFrames + n in
+      let at : bankOf frame ≡ bank = omega arith in
+      rw at at (gate-passes frame (omega arith)))
+
   pub stands-sound-under : banksSound m ≡ true
   unfolding banksSound
   stands-sound-under =
-      rw (stands-sound (row-stands stands), all-make (gateSound (m .gates) (m .row .states)) frames gate-passes)
+      rw (stands-sound (row-stands stands), all-make (bankSound (m .gates) (m .row .states)) Limits.banks bank-passes)
 
 pub banks-tested : {m : BankMemory} {r : Bool} → SizedUnder m → r ≡ banksSound m → BanksTested m r
 banks-tested sized is =
@@ -182,30 +202,30 @@ banks-failed {m} row no-row =
     }
 
 pub banks-passed : {m : BankMemory} {r ok : Bool} → RowTested (m .row) ok → ok ≡ true → length (m .gates) ≡ frames →
-    r ≡ allBelow (gateSound (m .gates) (m .row .states)) frames → BanksTested m r
+    r ≡ allBelow (bankSound (m .gates) (m .row .states)) Limits.banks → BanksTested m r
 banks-passed {m} row passes long is =
     banks-tested (record { row = stands-sized (row .gives passes); gates = long })
     (unfold banksSound in rw (← row .answer, passes) is)
 
 -- one gate, as code takes it
-pub record GateTested (gates states : List ℕ) (frame : ℕ) (r : Bool) : Type 0 where
-  pub is : r ≡ gateSound gates states frame
+pub record GateTested (gates states : List ℕ) (first frame : ℕ) (r : Bool) : Type 0 where
+  pub is : r ≡ gateSound gates states first frame
 
-module _ {gates states : List ℕ} {frame : ℕ} where
-  pub gate-other : (getD gates frame off ≡ getD gates (bankOf frame * bankFrames) off → ⊥) → GateTested gates states frame false
+module _ {gates states : List ℕ} {first frame : ℕ} where
+  pub gate-other : (getD gates frame off ≡ getD gates first off → ⊥) → GateTested gates states first frame false
   unfolding gateSound
-  gate-other ne = record { is = rw (ne-eqb (getD gates frame off) (getD gates (bankOf frame * bankFrames) off) ne) }
+  gate-other ne = record { is = rw (ne-eqb (getD gates frame off) (getD gates first off) ne) }
 
-  pub gate-off : getD gates frame off ≡ getD gates (bankOf frame * bankFrames) off → getD gates frame off ≡ off →
-      GateTested gates states frame (eqb (stateOf states frame) absent)
+  pub gate-off : getD gates frame off ≡ getD gates first off → getD gates frame off ≡ off →
+      GateTested gates states first frame (eqb (stateOf states frame) absent)
   unfolding gateSound
   gate-off same is =
-      let alike = eq-eqb (getD gates frame off) (getD gates (bankOf frame * bankFrames) off) same in
+      let alike = eq-eqb (getD gates frame off) (getD gates first off) same in
       record { is = rw (alike, eq-eqb (getD gates frame off) off is) }
 
-  pub gate-on : getD gates frame off ≡ getD gates (bankOf frame * bankFrames) off → (getD gates frame off ≡ off → ⊥) →
-      GateTested gates states frame (leb (getD gates frame off) closing)
+  pub gate-on : getD gates frame off ≡ getD gates first off → (getD gates frame off ≡ off → ⊥) →
+      GateTested gates states first frame (leb (getD gates frame off) closing)
   unfolding gateSound
   gate-on same on =
-      let alike = eq-eqb (getD gates frame off) (getD gates (bankOf frame * bankFrames) off) same in
+      let alike = eq-eqb (getD gates frame off) (getD gates first off) same in
       record { is = rw (alike, ne-eqb (getD gates frame off) off on) }

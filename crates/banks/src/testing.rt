@@ -6,44 +6,59 @@ use row_theory::ABSENT;
 use row_theory::PerFrame;
 use row_theory::PerSlot;
 use rules::BANK_FRAMES;
-use rules::FRAMES;
+use rules::BANKS;
+use rules::both;
 ghost use mathlib.Core.Path.{_≡_};
 ghost use Prim.Native.Nat.{_<_};
 ghost use lib.ListN.{length};
-ghost use Rattle.rules.specs.Limits.{frames};
+ghost use Rattle.rules.specs.Limits.{frames, banks as bankCount};
 ghost use Rattle.rules.specs.AllBelow.{allBelow};
-ghost use Rattle.bank_theory.specs.BankTest.{gateSound, BanksTested};
+ghost use Rattle.bank_theory.specs.BankTest.{bankSound, BanksTested};
 ghost use Rattle.bank_theory.specs.BankTestLaws.{GateTested};
 ghost use Rattle.bank_theory.specs.LentBanks.{askedBanks};
 
 // A frame's gate is that of the first frame of its bank, and one of the three; where it is off, the frame is absent.
-fn gate_sound(gates: &[u8], states: &[u8], frame: u8) -> bool
-    requires { ⌜ (length (now gates) ≡ frames) × (length (now states) ≡ frames) × (frame < frames) ⌝ }
-    ensures { λ r. ⌜ GateTested (now (gates .entry)) (now (states .entry)) frame r ⌝ }
+fn gate_sound(gates: &[u8], states: &[u8], first: usize, frame: usize) -> bool
+    requires { ⌜ (length (now gates) ≡ frames) × (length (now states) ≡ frames) × (first < frames) × (frame < frames) ⌝ }
+    ensures { λ r. ⌜ GateTested (now (gates .entry)) (now (states .entry)) first frame r ⌝ }
 {
-    let gate = gates[frame as usize];
-    let first = frame / BANK_FRAMES * BANK_FRAMES;
-    if gate != gates[first as usize] {
+    let gate = gates[frame];
+    let state = states[frame];
+    if gate != gates[first] {
         return false;
     }
     if gate == OFF {
-        return states[frame as usize] == ABSENT;
+        return state == ABSENT;
     }
     gate <= CLOSING
 }
 
+// So it is of each frame of a bank. As in the row's test no loop stops where one has failed.
+fn bank_sound(gates: &[u8], states: &[u8], bank: usize) -> bool
+    requires { ⌜ (length (now gates) ≡ frames) × (length (now states) ≡ frames) × (bank < bankCount) ⌝ }
+    ensures { λ r. ⌜ r ≡ bankSound (now (gates .entry)) (now (states .entry)) bank ⌝ }
+{
+    let first = bank * BANK_FRAMES as usize;
+    let mut sound = true;
+    let mut n = 0;
+    while n < BANK_FRAMES as usize {
+        sound = both(sound, gate_sound(gates, states, first, first + n));
+        n += 1;
+    }
+    sound
+}
+
 fn gates_sound(gates: &[u8], states: &[u8]) -> bool
     requires { ⌜ (length (now gates) ≡ frames) × (length (now states) ≡ frames) ⌝ }
-    ensures { λ r. ⌜ r ≡ allBelow (gateSound (now (gates .entry)) (now (states .entry))) frames ⌝ }
+    ensures { λ r. ⌜ r ≡ allBelow (bankSound (now (gates .entry)) (now (states .entry))) bankCount ⌝ }
 {
-    let mut frame = 0;
-    while frame < FRAMES {
-        if !gate_sound(gates, states, frame) {
-            return false;
-        }
-        frame += 1;
+    let mut sound = true;
+    let mut bank = 0;
+    while bank < BANKS as usize {
+        sound = both(sound, bank_sound(gates, states, bank));
+        bank += 1;
     }
-    true
+    sound
 }
 
 // Are these banks and their row such as fresh ones and calls give?

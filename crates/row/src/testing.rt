@@ -11,77 +11,87 @@ use row_theory::PerSlot;
 use rules::FRAMES;
 use rules::HELD;
 use rules::SLOTS;
+use rules::both;
 ghost use mathlib.Core.Path.{_≡_};
 ghost use Prim.Native.Nat.{_<_};
 ghost use lib.ListN.{length};
 ghost use Rattle.rules.specs.Limits.{frames, slots as slotCount};
 ghost use Rattle.rules.specs.AllBelow.{allBelow};
 ghost use Rattle.row_theory.specs.States.{heldIn};
+ghost use Rattle.row_theory.specs.Slots.{framesIn};
 ghost use Rattle.row_theory.specs.RowTest.{slotSound, frameSound, rowSound, RowTested};
 ghost use Rattle.row_theory.specs.TestParts.{Sized};
-ghost use Rattle.row_theory.specs.TestSteps.{SlotTested, FrameTested, RoomTested};
+ghost use Rattle.row_theory.specs.TestSteps.{SlotTested, FrameTested, RoomTested, fullBit};
 ghost use Rattle.row_theory.specs.LentRow.{askedMemory};
 
-// A slot holds a frame whose place it is, and is not below the front; or it is empty.
+// A frame to read the place of, whatever the slot holds.
+fn some_frame(x: u8) -> u8
+    ensures { λ r. ⌜ (r < frames) × (x < frames → r ≡ x) ⌝ }
+{
+    if x < FRAMES {
+        return x;
+    }
+    0
+}
+
+// A slot holds a frame whose place it is, and is not below the front; or it is empty. The place is read in any case: which
+// slots are full cannot be foretold, and a wrong guess costs more than the reading.
 fn slot_sound(slots: &[u8], places: &[u8], front: usize, slot: usize) -> bool
     requires { ⌜ (length (now slots) ≡ slotCount) × (length (now places) ≡ frames) × (slot < slotCount) ⌝ }
     ensures { λ r. ⌜ SlotTested (now (slots .entry)) (now (places .entry)) front slot r ⌝ }
 {
     let frame = slots[slot];
+    let place = places[some_frame(frame) as usize];
     if FRAMES <= frame {
         return frame == EMPTY;
     }
     if slot < front {
         return false;
     }
-    places[frame as usize] == slot as u8
+    place == slot as u8
 }
 
-// A held frame stands in the slot that its place names; an absent one has no place.
-fn frame_sound(slots: &[u8], places: &[u8], states: &[u8], frame: u8) -> bool
-    requires { ⌜ Sized (askedMemory slots places states 0 0) × (frame < frames) ⌝ }
-    ensures { λ r. ⌜ FrameTested (now (slots .entry)) (now (places .entry)) (now (states .entry)) frame r ⌝ }
+// A held frame has a place; an absent one has none.
+fn frame_sound(places: &[u8], states: &[u8], frame: usize) -> bool
+    requires { ⌜ (length (now places) ≡ frames) × (length (now states) ≡ frames) × (frame < frames) ⌝ }
+    ensures { λ r. ⌜ FrameTested (now (places .entry)) (now (states .entry)) frame r ⌝ }
 {
-    let place = places[frame as usize];
-    let state = states[frame as usize];
+    let place = places[frame];
+    let state = states[frame];
     if state == ABSENT {
         return place == NOWHERE;
     }
     if BUSY < state {
         return false;
     }
-    if NOWHERE <= place {
-        return false;
-    }
-    slots[place as usize] == frame
+    place < NOWHERE
 }
 
+// The loops go on where a slot or a frame has failed: without a way out they are done many at a time.
 fn slots_sound(slots: &[u8], places: &[u8], front: usize) -> bool
     requires { ⌜ (length (now slots) ≡ slotCount) × (length (now places) ≡ frames) ⌝ }
     ensures { λ r. ⌜ r ≡ allBelow (slotSound front (now (slots .entry)) (now (places .entry))) slotCount ⌝ }
 {
+    let mut sound = true;
     let mut i = 0;
     while i < SLOTS {
-        if !slot_sound(slots, places, front, i) {
-            return false;
-        }
+        sound = both(sound, slot_sound(slots, places, front, i));
         i += 1;
     }
-    true
+    sound
 }
 
-fn frames_sound(slots: &[u8], places: &[u8], states: &[u8]) -> bool
-    requires { ⌜ Sized (askedMemory slots places states 0 0) ⌝ }
-    ensures { λ r. ⌜ r ≡ allBelow (frameSound (now (slots .entry)) (now (places .entry)) (now (states .entry))) frames ⌝ }
+fn frames_sound(places: &[u8], states: &[u8]) -> bool
+    requires { ⌜ (length (now places) ≡ frames) × (length (now states) ≡ frames) ⌝ }
+    ensures { λ r. ⌜ r ≡ allBelow (frameSound (now (places .entry)) (now (states .entry))) frames ⌝ }
 {
-    let mut frame = 0;
-    while frame < FRAMES {
-        if !frame_sound(slots, places, states, frame) {
-            return false;
-        }
-        frame += 1;
+    let mut sound = true;
+    let mut i = 0;
+    while i < FRAMES as usize {
+        sound = both(sound, frame_sound(places, states, i));
+        i += 1;
     }
-    true
+    sound
 }
 
 // The number of frames held.
@@ -96,6 +106,30 @@ fn held_in(states: &[u8]) -> usize
         i += 1;
     }
     held
+}
+
+// What a slot adds to the number of frames in the slots.
+fn full_bit(x: u8) -> usize
+    ensures { λ r. ⌜ r ≡ fullBit x ⌝ }
+{
+    if x < FRAMES {
+        return 1;
+    }
+    0
+}
+
+// The number of frames in the slots.
+fn full_in(slots: &[u8]) -> usize
+    requires { ⌜ length (now slots) ≡ slotCount ⌝ }
+    ensures { λ r. ⌜ r ≡ length (framesIn (now (slots .entry))) ⌝ }
+{
+    let mut full = 0;
+    let mut i = 0;
+    while i < SLOTS {
+        full += full_bit(slots[i]);
+        i += 1;
+    }
+    full
 }
 
 // At most 32 frames are held, and fewer where the slot at the front is empty.
@@ -126,10 +160,13 @@ fn tested(slots: &[u8], places: &[u8], states: &[u8], front: usize, held: usize)
     if !slots_sound(slots, places, front) {
         return false;
     }
-    if !frames_sound(slots, places, states) {
+    if !frames_sound(places, states) {
         return false;
     }
     if held != held_in(states) {
+        return false;
+    }
+    if held != full_in(slots) {
         return false;
     }
     room_sound(slots, front, held)

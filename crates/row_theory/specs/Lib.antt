@@ -35,10 +35,11 @@ pub mod PlaceLaws
 pub mod RebuildCalls
 pub mod RebuildSteps
 pub mod Rebuilt
+pub mod TestSteps
+pub mod Sums
 pub mod TestParts
 pub mod TestTidy
 pub mod TestLaws
-pub mod TestSteps
 pub mod Packing
 pub mod PackingLaws
 pub mod LendingLaws

@@ -1,16 +1,16 @@
--- The test of a row in lent memory (docs/RULES.md, X5): slots and places point at each other, and the numbers agree. A row passes
--- it exactly if a fresh row and calls give it (TestLaws).
+-- The test of a row in lent memory (docs/RULES.md, X5): each slot's frame has that slot for its place, each held frame has a place,
+-- and as many frames stand in the slots as are held. A row passes it exactly if a fresh row and calls give it (TestLaws).
 use Prim.Native.Nat.{ℕ}
 use mathlib.Core.Path.{_≡_}
 use mathlib.Core.Bool.{Bool, true, cond, _&&_}
 use mathlib.Core.List.{List}
 use lib.Dec.{leb, ltb, eqb}
-use lib.ListN.{getD}
+use lib.ListN.{length, getD}
 use Rattle.rules.specs.Limits.{frames}
 use Rattle.rules.specs.Limits
 use Rattle.rules.specs.AllBelow.{allBelow}
 use Rattle.row_theory.specs.States.{absent, busy, stateOf, heldIn}
-use Rattle.row_theory.specs.Slots.{empty}
+use Rattle.row_theory.specs.Slots.{empty, framesIn}
 use Rattle.row_theory.specs.Promise.{Memory, Stands}
 
 -- the place of a frame that has no slot
@@ -23,12 +23,12 @@ slotSound front slots places slot =
     let frame = getD slots slot empty in
     cond (ltb frame frames) (leb front slot && eqb (getD places frame 0) slot) (eqb frame empty)
 
--- a held frame stands in the slot that its place names; an absent one has no place
-unfoldable pub frameSound : List ℕ → List ℕ → List ℕ → ℕ → Bool
-frameSound slots places states frame =
+-- a held frame has a place, an absent one has none
+unfoldable pub frameSound : List ℕ → List ℕ → ℕ → Bool
+frameSound places states frame =
     let place = getD places frame 0 in
     cond (eqb (stateOf states frame) absent) (eqb place nowhere)
-    (leb (stateOf states frame) busy && eqb (getD slots place empty) frame)
+    (leb (stateOf states frame) busy && ltb place nowhere)
 
 -- at most 32 frames are held, and fewer where the slot at the front is empty: the frame that filled the row took that slot
 unfoldable pub roomSound : List ℕ → ℕ → ℕ → Bool
@@ -38,9 +38,10 @@ unfoldable pub rowSound : Memory → Bool
 rowSound m =
     leb (m .front) Limits.slots
     && (allBelow (slotSound (m .front) (m .slots) (m .places)) Limits.slots
-    && (allBelow (frameSound (m .slots) (m .places) (m .states)) frames
+    && (allBelow (frameSound (m .places) (m .states)) frames
     && (eqb (m .held) (heldIn (m .states))
-    && roomSound (m .slots) (m .front) (m .held))))
+    && (eqb (m .held) (length (framesIn (m .slots)))
+    && roomSound (m .slots) (m .front) (m .held)))))
 
 -- what testing a row answers: the test, and so whether a fresh row and calls give the row
 pub record RowTested (m : Memory) (r : Bool) : Type 0 where

@@ -13,11 +13,12 @@ use Rattle.rules.specs.Cases.{by-cases}
 use Rattle.rules.specs.Lists.{times}
 use Rattle.rules.specs.AllBelow.{all-make}
 use Rattle.row_theory.specs.States.{absent, busy, stateOf, heldBit, heldIn}
-use Rattle.row_theory.specs.Slots.{empty, slotOf}
+use Rattle.row_theory.specs.Slots.{empty, framesIn, slotOf}
 use Rattle.row_theory.specs.Promise.{Memory, rowIn, Stands}
 use Rattle.row_theory.specs.RowTest.{nowhere, slotSound, frameSound, roomSound, rowSound, RowTested}
 use Rattle.row_theory.specs.StateLaws.{heldBit-absent, heldBit-small}
-use Rattle.row_theory.specs.PlaceLaws.{placesIn-length, placesIn-at, slotOf-there, slotOf-none}
+use Rattle.row_theory.specs.PlaceLaws.{placesIn-length, placesIn-at, slotOf-inside, slotOf-none}
+use Rattle.row_theory.specs.PromiseLaws.{ordered}
 use Rattle.row_theory.specs.Tidy.{Tidy, tidy}
 use Rattle.row_theory.specs.Rebuilt.{rebuilt}
 use Rattle.row_theory.specs.TestParts.{Sized, passed, passes-all}
@@ -50,7 +51,7 @@ module _ {m : Memory} (stands : Stands m) where
       rw (e, above) (eq-eqb (getD (m .places) x 0) i here))
       (λ e. rw e (eq-eqb x empty (omega (arith, it .slots i, ltb-false x frames e))))
 
-  frame-passes : (f : ℕ) → f < frames → frameSound (m .slots) (m .places) (m .states) f ≡ true
+  frame-passes : (f : ℕ) → f < frames → frameSound (m .places) (m .states) f ≡ true
   unfolding frameSound
   frame-passes f small =
       let state = stateOf (m .states) f in
@@ -60,8 +61,8 @@ module _ {m : Memory} (stands : Stands m) where
       it .once f small ∙ ap heldBit (eqb-true state absent e) ∙ heldBit-absent in
       rw e (eq-eqb place nowhere (place-is f small ∙ slotOf-none f (m .slots) none ∙ it .long)))
       (λ e. let some : 0 < times f (m .slots) = omega (arith, it .once f small, held-some state e) in
-      let there = ap (λ (k : ℕ). getD (m .slots) k empty) (place-is f small) ∙ slotOf-there f (m .slots) empty some in
-      rw (e, le-leb state busy (it .states f)) (eq-eqb (getD (m .slots) place empty) f there))
+      let inside : place < nowhere = omega (arith, place-is f small, slotOf-inside f (m .slots) some, it .long) in
+      rw (e, le-leb state busy (it .states f)) (lt-ltb place nowhere inside))
 
   room-passes : roomSound (m .slots) (m .front) (m .held) ≡ true
   unfolding roomSound
@@ -77,8 +78,9 @@ module _ {m : Memory} (stands : Stands m) where
       (record {
         front = le-leb (m .front) Limits.slots (it .inside);
         slots = all-make (slotSound (m .front) (m .slots) (m .places)) Limits.slots slot-passes;
-        frames = all-make (frameSound (m .slots) (m .places) (m .states)) frames frame-passes;
+        frames = all-make (frameSound (m .places) (m .states)) frames frame-passes;
         held = eq-eqb (m .held) (heldIn (m .states)) (it .number);
+        full = eq-eqb (m .held) (length (framesIn (m .slots))) (it .number ∙ sym (ordered (stands .reached) .sound .many));
         room = room-passes;
       })
 

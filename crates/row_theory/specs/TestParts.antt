@@ -11,6 +11,7 @@ use Rattle.rules.specs.Limits
 use Rattle.rules.specs.Cases.{by-cases, and-left, and-right}
 use Rattle.rules.specs.AllBelow.{allBelow}
 use Rattle.row_theory.specs.States.{heldIn}
+use Rattle.row_theory.specs.Slots.{framesIn}
 use Rattle.row_theory.specs.Promise.{Memory}
 use Rattle.row_theory.specs.RowTest.{slotSound, frameSound, roomSound, rowSound}
 
@@ -24,31 +25,35 @@ pub record Sized (m : Memory) : Type 0 where
 pub record Passed (m : Memory) : Type 0 where
   pub front : leb (m .front) Limits.slots ≡ true
   pub slots : allBelow (slotSound (m .front) (m .slots) (m .places)) Limits.slots ≡ true
-  pub frames : allBelow (frameSound (m .slots) (m .places) (m .states)) frames ≡ true
+  pub frames : allBelow (frameSound (m .places) (m .states)) frames ≡ true
   pub held : eqb (m .held) (heldIn (m .states)) ≡ true
+  pub full : eqb (m .held) (length (framesIn (m .slots))) ≡ true
   pub room : roomSound (m .slots) (m .front) (m .held) ≡ true
 
 pub passed : (m : Memory) → rowSound m ≡ true → Passed m
 unfolding rowSound
 passed m e =
     let slotsOk = allBelow (slotSound (m .front) (m .slots) (m .places)) Limits.slots in
-    let framesOk = allBelow (frameSound (m .slots) (m .places) (m .states)) frames in
+    let framesOk = allBelow (frameSound (m .places) (m .states)) frames in
     let heldOk = eqb (m .held) (heldIn (m .states)) in
+    let fullOk = eqb (m .held) (length (framesIn (m .slots))) in
     let roomOk = roomSound (m .slots) (m .front) (m .held) in
-    let rest = and-right (leb (m .front) Limits.slots) (slotsOk && (framesOk && (heldOk && roomOk))) e in
-    let rest₂ = and-right slotsOk (framesOk && (heldOk && roomOk)) rest in
-    let rest₃ = and-right framesOk (heldOk && roomOk) rest₂ in
+    let rest = and-right (leb (m .front) Limits.slots) (slotsOk && (framesOk && (heldOk && (fullOk && roomOk)))) e in
+    let rest₂ = and-right slotsOk (framesOk && (heldOk && (fullOk && roomOk))) rest in
+    let rest₃ = and-right framesOk (heldOk && (fullOk && roomOk)) rest₂ in
+    let rest₄ = and-right heldOk (fullOk && roomOk) rest₃ in
     record {
-      front = and-left (leb (m .front) Limits.slots) (slotsOk && (framesOk && (heldOk && roomOk))) e;
-      slots = and-left slotsOk (framesOk && (heldOk && roomOk)) rest;
-      frames = and-left framesOk (heldOk && roomOk) rest₂;
-      held = and-left heldOk roomOk rest₃;
-      room = and-right heldOk roomOk rest₃;
+      front = and-left (leb (m .front) Limits.slots) (slotsOk && (framesOk && (heldOk && (fullOk && roomOk)))) e;
+      slots = and-left slotsOk (framesOk && (heldOk && (fullOk && roomOk))) rest;
+      frames = and-left framesOk (heldOk && (fullOk && roomOk)) rest₂;
+      held = and-left heldOk (fullOk && roomOk) rest₃;
+      full = and-left fullOk roomOk rest₄;
+      room = and-right fullOk roomOk rest₄;
     }
 
 pub passes-all : {m : Memory} → Passed m → rowSound m ≡ true
 unfolding rowSound
-passes-all p = rw (p .front, p .slots, p .frames, p .held, p .room)
+passes-all p = rw (p .front, p .slots, p .frames, p .held, p .full, p .room)
 
 -- memory that fails one part fails the test; where the others pass, the last one decides
 pub fails : (m : Memory) → (Passed m → ⊥) → false ≡ rowSound m
@@ -56,8 +61,14 @@ fails m never = by-cases (rowSound m) (λ e. absurd (never (passed m e))) sym
 
 pub by-room : (m : Memory) {r : Bool} → m .front ≤ Limits.slots →
     allBelow (slotSound (m .front) (m .slots) (m .places)) Limits.slots ≡ true →
-    allBelow (frameSound (m .slots) (m .places) (m .states)) frames ≡ true → m .held ≡ heldIn (m .states) →
-    r ≡ roomSound (m .slots) (m .front) (m .held) → r ≡ rowSound m
+    allBelow (frameSound (m .places) (m .states)) frames ≡ true → m .held ≡ heldIn (m .states) →
+    m .held ≡ length (framesIn (m .slots)) → r ≡ roomSound (m .slots) (m .front) (m .held) → r ≡ rowSound m
 unfolding rowSound
-by-room m low slotsOk framesOk heldOk is =
-    rw (le-leb (m .front) Limits.slots low, slotsOk, framesOk, eq-eqb (m .held) (heldIn (m .states)) heldOk) is
+by-room m low slotsOk framesOk heldOk fullOk is =
+    rw (
+      le-leb (m .front) Limits.slots low,
+      slotsOk,
+      framesOk,
+      eq-eqb (m .held) (heldIn (m .states)) heldOk,
+      eq-eqb (m .held) (length (framesIn (m .slots))) fullOk,
+    ) is

@@ -5,7 +5,7 @@ use native.Mathlib.Nat.{not-suc-le-zero, le-of-suc-le-suc}
 use native.Mathlib.Numerals.{add-one}
 use native.Mathlib.Omega.{arith}
 use mathlib.Core.Path.{_≡_, refl, sym, _∙_, ap}
-use mathlib.Core.Bool.{Bool, true, false, and-false}
+use mathlib.Core.Bool.{Bool, true, false, cond}
 use mathlib.Core.List.{List, [], _∷_}
 use lib.Dec.{leb, ltb, eqb}
 use lib.ListN.{List·getD-eq-default, length, getD, take}
@@ -15,7 +15,7 @@ use Rattle.rules.specs.Limits.{frames}
 use Rattle.rules.specs.Limits
 use Rattle.rules.specs.Cases.{by-cases}
 use Rattle.row_theory.specs.States.{absent, busy, stateOf, heldBit, heldIn}
-use Rattle.row_theory.specs.Slots.{empty}
+use Rattle.row_theory.specs.Slots.{empty, framesIn}
 use Rattle.row_theory.specs.RowTest.{nowhere, slotSound, frameSound, roomSound}
 use Rattle.row_theory.specs.StateLaws.{heldBit-small}
 
@@ -47,14 +47,14 @@ module _ {slots places : List ℕ} {front slot : ℕ} (long : length slots ≡ L
       record { is = unfold slotSound in rw (← same, lt-ltb (getD slots slot 0) frames small, le-leb front slot above) }
 
 -- one frame
-pub record FrameTested (slots places states : List ℕ) (frame : ℕ) (r : Bool) : Type 0 where
-  pub is : r ≡ frameSound slots places states frame
+pub record FrameTested (places states : List ℕ) (frame : ℕ) (r : Bool) : Type 0 where
+  pub is : r ≡ frameSound places states frame
 
-module _ {slots places states : List ℕ} {frame : ℕ} where
-  pub frame-out : stateOf states frame ≡ absent → FrameTested slots places states frame (eqb (getD places frame 0) nowhere)
+module _ {places states : List ℕ} {frame : ℕ} where
+  pub frame-out : stateOf states frame ≡ absent → FrameTested places states frame (eqb (getD places frame 0) nowhere)
   frame-out is = record { is = unfold frameSound in rw (eq-eqb (stateOf states frame) absent is) }
 
-  pub frame-unknown : busy < stateOf states frame → FrameTested slots places states frame false
+  pub frame-unknown : busy < stateOf states frame → FrameTested places states frame false
   frame-unknown past =
       record {
         is =
@@ -62,25 +62,13 @@ module _ {slots places states : List ℕ} {frame : ℕ} where
             rw (ne-eqb (stateOf states frame) absent (λ e. omega arith), lt-leb (stateOf states frame) busy past);
       }
 
-  pub frame-nowhere : length slots ≡ Limits.slots → frame < frames → (stateOf states frame ≡ absent → ⊥) →
-      nowhere ≤ getD places frame 0 → FrameTested slots places states frame false
-  unfolding frameSound
-  frame-nowhere long small here past =
-      let none : getD slots (getD places frame 0) empty ≡ empty = List·getD-eq-default slots empty {n = (getD places frame 0)} (omega arith) in
+  pub frame-there : (stateOf states frame ≡ absent → ⊥) → stateOf states frame ≤ busy →
+      FrameTested places states frame (ltb (getD places frame 0) nowhere)
+  frame-there here known =
       record {
         is =
-            rw (ne-eqb (stateOf states frame) absent here, none, ne-eqb empty frame (λ e. omega arith))
-            (sym (and-false (leb (stateOf states frame) busy)));
-      }
-
-  pub frame-there : length slots ≡ Limits.slots → (stateOf states frame ≡ absent → ⊥) → stateOf states frame ≤ busy →
-      getD places frame 0 < nowhere → FrameTested slots places states frame (eqb (getD slots (getD places frame 0) 0) frame)
-  unfolding frameSound
-  frame-there long here known low =
-      let same = inside-reads slots (getD places frame 0) 0 empty (omega arith) in
-      record {
-        is =
-            rw (same, ne-eqb (stateOf states frame) absent here, le-leb (stateOf states frame) busy known);
+            unfold frameSound in
+            rw (ne-eqb (stateOf states frame) absent here, le-leb (stateOf states frame) busy known);
       }
 
 -- the room
@@ -121,7 +109,7 @@ pub record HeldTo (states : List ℕ) (i held : ℕ) : Type 0 where
   pub few : held ≤ i
   pub sum : held ≡ heldIn (take i states)
 
-held-none : (states : List ℕ) → heldIn (take 0 states) ≡ 0
+pub held-none : (states : List ℕ) → heldIn (take 0 states) ≡ 0
 unfolding heldIn
 held-none [] = refl
 held-none (s ∷ states) = refl
@@ -129,7 +117,7 @@ held-none (s ∷ states) = refl
 pub held-start : {states : List ℕ} → HeldTo states 0 0
 held-start {states} = record { most = zero-le; few = zero-le; sum = sym (held-none states) }
 
-held-take : (states : List ℕ) (i : ℕ) → i < length states →
+pub held-take : (states : List ℕ) (i : ℕ) → i < length states →
     heldIn (take (suc i) states) ≡ heldIn (take i states) + heldBit (getD states i 0)
 unfolding heldIn
 held-take [] i inside = absurd (not-suc-le-zero inside)
@@ -148,3 +136,46 @@ held-next {states} {i} {held} long so-far below =
 pub held-end : {states : List ℕ} {i held : ℕ} → length states ≡ frames → HeldTo states i held → frames ≤ i →
     held ≡ heldIn states
 held-end {states} {i} long so-far ended = so-far .sum ∙ ap heldIn (take-all i states (omega arith))
+
+-- the frames in the first so many slots
+pub record FullTo (slots : List ℕ) (i full : ℕ) : Type 0 where
+  pub most : i ≤ Limits.slots
+  pub few : full ≤ i
+  pub sum : full ≡ length (framesIn (take i slots))
+
+full-none : (slots : List ℕ) → length (framesIn (take 0 slots)) ≡ 0
+unfolding framesIn
+full-none [] = refl
+full-none (x ∷ slots) = refl
+
+pub full-start : {slots : List ℕ} → FullTo slots 0 0
+full-start {slots} = record { most = zero-le; few = zero-le; sum = sym (full-none slots) }
+
+-- 1 for a slot that holds a frame
+abbrev pub fullBit : ℕ → ℕ
+fullBit x = cond (ltb x frames) 1 0
+
+full-take : (slots : List ℕ) (i : ℕ) → i < length slots →
+    length (framesIn (take (suc i) slots)) ≡ length (framesIn (take i slots)) + fullBit (getD slots i 0)
+unfolding framesIn
+full-take [] i inside = absurd (not-suc-le-zero inside)
+full-take (x ∷ slots) zero inside = by-cases (ltb x frames) (λ e. rw e (omega arith)) (λ e. rw e (omega arith))
+full-take (x ∷ slots) (suc i) inside =
+    let rest = full-take slots i (le-of-suc-le-suc inside) in
+    by-cases (ltb x frames) (λ e. rw e (omega (arith, rest))) (λ e. rw e (omega (arith, rest)))
+
+pub full-bit-small : (x : ℕ) → fullBit x ≤ 1
+full-bit-small x = by-cases (ltb x frames) (λ e. rw e (omega arith)) (λ e. rw e (omega arith))
+
+pub full-next : {slots : List ℕ} {i full : ℕ} → length slots ≡ Limits.slots → FullTo slots i full → i < Limits.slots →
+    FullTo slots (i + 1) (full + fullBit (getD slots i 0))
+full-next {slots} {i} {full} long so-far below =
+    record {
+      most = omega arith;
+      few = omega (arith, so-far .few, full-bit-small (getD slots i 0));
+      sum = rw (add-one i) (omega (arith, so-far .sum, full-take slots i (omega arith)));
+    }
+
+pub full-end : {slots : List ℕ} {i full : ℕ} → length slots ≡ Limits.slots → FullTo slots i full → Limits.slots ≤ i →
+    full ≡ length (framesIn slots)
+full-end {slots} {i} long so-far ended = so-far .sum ∙ ap (λ (l : List ℕ). length (framesIn l)) (take-all i slots (omega arith))

@@ -15,12 +15,13 @@ use Rattle.rules.specs.Cases.{by-cases, and-left, and-right}
 use Rattle.rules.specs.Lists.{times}
 use Rattle.rules.specs.AllBelow.{all-at}
 use Rattle.row_theory.specs.States.{absent, busy, stateOf, heldBit, heldIn}
-use Rattle.row_theory.specs.Slots.{empty, slotOf, placesIn}
+use Rattle.row_theory.specs.Slots.{empty, framesIn, slotOf, placesIn}
 use Rattle.row_theory.specs.Promise.{Memory, rowIn}
 use Rattle.row_theory.specs.RowTest.{nowhere, slotSound, frameSound, roomSound}
 use Rattle.row_theory.specs.Counting.{times-set, times-there}
 use Rattle.row_theory.specs.PlaceLaws.{placesIn-length, placesIn-at, slotOf-inside, slotOf-there, slotOf-none}
 use Rattle.row_theory.specs.Tidy.{Tidy}
+use Rattle.row_theory.specs.Sums.{all-stand}
 use Rattle.row_theory.specs.TestParts.{Sized, Passed}
 
 -- a number that stands at one place only stands there once
@@ -73,25 +74,20 @@ slot-says front slots places slot e =
       none = λ past. eqb-true x empty (rw (le-ltb x frames past) at e);
     }
 
-record FrameSays (slots places states : List ℕ) (frame : ℕ) : Type 0 where
+record FrameSays (places states : List ℕ) (frame : ℕ) : Type 0 where
   pub out : stateOf states frame ≡ absent → getD places frame 0 ≡ nowhere
   pub known : stateOf states frame ≤ busy
-  pub there : (stateOf states frame ≡ absent → ⊥) → getD slots (getD places frame 0) empty ≡ frame
 
-frame-says : (slots places states : List ℕ) (frame : ℕ) → frameSound slots places states frame ≡ true →
-    FrameSays slots places states frame
+frame-says : (places states : List ℕ) (frame : ℕ) → frameSound places states frame ≡ true → FrameSays places states frame
 unfolding frameSound
-frame-says slots places states frame e =
+frame-says places states frame e =
     let state = stateOf states frame in
     let place = getD places frame 0 in
     record {
       out = λ is. eqb-true place nowhere (rw (eq-eqb state absent is) at e);
       known =
           by-cases (eqb state absent) (λ is. omega (arith, eqb-true state absent is))
-          (λ here. leb-true state busy (and-left (leb state busy) (eqb (getD slots place empty) frame) (rw here at e)));
-      there = λ here.
-          eqb-true (getD slots place empty) frame
-          (and-right (leb state busy) (eqb (getD slots place empty) frame) (rw (ne-eqb state absent here) at e));
+          (λ here. leb-true state busy (and-left (leb state busy) (ltb place nowhere) (rw here at e)));
     }
 
 -- a held frame's bit is 1
@@ -119,10 +115,9 @@ module _ {m : Memory} (sized : Sized m) (p : Passed m) where
       slot-says (m .front) (m .slots) (m .places) i
       (all-at (slotSound (m .front) (m .slots) (m .places)) Limits.slots i low (p .slots))
 
-  abbrev at-frame : (f : ℕ) → f < frames → FrameSays (m .slots) (m .places) (m .states) f
+  abbrev at-frame : (f : ℕ) → f < frames → FrameSays (m .places) (m .states) f
   at-frame f low =
-      frame-says (m .slots) (m .places) (m .states) f
-      (all-at (frameSound (m .slots) (m .places) (m .states)) frames f low (p .frames))
+      frame-says (m .places) (m .states) f (all-at (frameSound (m .places) (m .states)) frames f low (p .frames))
 
   -- where a frame stands is its place
   placed-at : (f i : ℕ) → f < frames → i < length (m .slots) → getD (m .slots) i empty ≡ f → getD (m .places) f 0 ≡ i
@@ -135,7 +130,7 @@ module _ {m : Memory} (sized : Sized m) (p : Passed m) where
       once-most (m .slots) f small
       (λ i j in-i in-j at-i at-j. sym (placed-at f i small in-i at-i) ∙ placed-at f j small in-j at-j)
 
-  -- an absent frame stands nowhere, a held one somewhere
+  -- an absent frame stands nowhere
   stands-out : (f : ℕ) → f < frames → stateOf (m .states) f ≡ absent → times f (m .slots) ≡ 0
   stands-out f small is =
       by-cases (eqb (times f (m .slots)) 0) (eqb-true (times f (m .slots)) 0)
@@ -144,20 +139,19 @@ module _ {m : Memory} (sized : Sized m) (p : Passed m) where
       let here = placed-at f (slotOf f (m .slots)) small inside (slotOf-there f (m .slots) empty some) in
       absurd (omega (arith, at-frame f small .out is, sized .slots)))
 
-  stands-in : (f : ℕ) → f < frames → (stateOf (m .states) f ≡ absent → ⊥) → 0 < times f (m .slots)
-  stands-in f small here =
-      let place = getD (m .places) f 0 in
-      let there = at-frame f small .there here in
-      by-cases (ltb place (length (m .slots)))
-      (λ e. times-there f (m .slots) place empty (ltb-true place (length (m .slots)) e) there)
-      (λ e. absurd (omega (arith, List·getD-eq-default (m .slots) empty {n = place} (ltb-false place (length (m .slots)) e))))
-
-  stands-once : (f : ℕ) → f < frames → times f (m .slots) ≡ heldBit (stateOf (m .states) f)
+  stands-most : (f : ℕ) → f < frames → times f (m .slots) ≤ heldBit (stateOf (m .states) f)
   unfolding heldBit
-  stands-once f small =
+  stands-most f small =
       by-cases (eqb (stateOf (m .states) f) absent)
-      (λ e. rw e (stands-out f small (eqb-true (stateOf (m .states) f) absent e)))
-      (λ e. rw e (omega (arith, one-place f small, stands-in f small (eqb-false (stateOf (m .states) f) absent e))))
+      (λ e. rw e (omega (arith, stands-out f small (eqb-true (stateOf (m .states) f) absent e))))
+      (λ e. rw e (one-place f small))
+
+  -- as many stand in the slots as are held
+  stands-once : (f : ℕ) → f < frames → times f (m .slots) ≡ heldBit (stateOf (m .states) f)
+  stands-once =
+      let held = eqb-true (m .held) (heldIn (m .states)) (p .held) in
+      let full = eqb-true (m .held) (length (framesIn (m .slots))) (p .full) in
+      all-stand (m .slots) (m .states) (sized .states) (sym full ∙ held) stands-most
 
   pub sound-tidy : Tidy (rowIn m)
   sound-tidy =
@@ -195,5 +189,5 @@ module _ {m : Memory} (sized : Sized m) (p : Passed m) where
       (by-cases (eqb (stateOf (m .states) f) absent)
       (λ e. let is = eqb-true (stateOf (m .states) f) absent e in
       at-frame f small .out is ∙ sym (slotOf-none f (m .slots) (stands-out f small is) ∙ sized .slots))
-      (λ e. let some = stands-in f small (eqb-false (stateOf (m .states) f) absent e) in
+      (λ e. let some : 0 < times f (m .slots) = omega (arith, stands-once f small, held-some (stateOf (m .states) f) e) in
       placed-at f (slotOf f (m .slots)) small (slotOf-inside f (m .slots) some) (slotOf-there f (m .slots) empty some))))

@@ -1,8 +1,8 @@
 -- A test of every number below a bound: what a test of lent memory is made of.
-use Prim.Native.Nat.{ℕ, zero, suc, _+_, _<_, _≤_}
+use Prim.Native.Nat.{ℕ, zero, suc, _+_, _<_, _≤_, zero-le}
 use native.Mathlib.Numerals.{add-one}
 use native.Mathlib.Omega.{arith}
-use mathlib.Core.Path.{_≡_, refl, sym}
+use mathlib.Core.Path.{_≡_, refl, _∙_, ap}
 use mathlib.Core.Bool.{Bool, true, false, _&&_}
 use lib.Dec.{eqb}
 use borrow.Author.Tests.{eqb-true, eqb-false}
@@ -30,14 +30,23 @@ module _ (p : ℕ → Bool) where
   pub all-broken : (n i : ℕ) → i < n → p i ≡ false → allBelow p n ≡ false
   all-broken n i below bad = by-cases (allBelow p n) (λ e. clash (all-at n i below e) bad) (λ e. e)
 
--- the test as a loop goes through it: all passed so far, and one more; none is left; one failed
-pub all-none : (p : ℕ → Bool) → allBelow p 0 ≡ true
-unfolding allBelow
-all-none p = refl
-
+-- one more, where all passed so far
 pub all-next : (p : ℕ → Bool) (i : ℕ) → allBelow p i ≡ true → p i ≡ true → allBelow p (i + 1) ≡ true
 unfolding allBelow
 all-next p i so-far here = rw (add-one i, so-far, here)
 
-pub all-end : (p : ℕ → Bool) (n i : ℕ) → allBelow p i ≡ true → i ≤ n → n ≤ i → true ≡ allBelow p n
-all-end p n i so-far most least = let same : n ≡ i = omega arith in rw same (sym so-far)
+-- the test as a loop goes through it that does not stop where one fails
+pub record AllTo (p : ℕ → Bool) (n i : ℕ) (r : Bool) : Type 0 where
+  pub most : i ≤ n
+  pub is : r ≡ allBelow p i
+
+pub all-start : {p : ℕ → Bool} {n : ℕ} → AllTo p n 0 true
+all-start = record { most = zero-le; is = unfold allBelow in refl }
+
+pub all-also : {p : ℕ → Bool} {n i : ℕ} {so-far here r : Bool} → AllTo p n i so-far → i < n → here ≡ p i → r ≡ (so-far && here) →
+    AllTo p n (i + 1) r
+unfolding allBelow
+all-also {p} {n} {i} all below one both = record { most = omega arith; is = rw (add-one i) (both ∙ rw (all .is, one)) }
+
+pub all-done : {p : ℕ → Bool} {n i : ℕ} {r : Bool} → AllTo p n i r → n ≤ i → r ≡ allBelow p n
+all-done {p} {n} {i} all ended = let same : i ≡ n = omega (arith, all .most) in all .is ∙ ap (allBelow p) same

@@ -3,6 +3,7 @@
 // promises: code that uses one and a promise that cites the other are proved only while both agree.
 ghost use Prim.Native.Nat.{min};
 ghost use mathlib.Core.Path.{_≡_};
+ghost use mathlib.Core.Bool.{_&&_};
 ghost use Rattle.rules.specs.Refusals.{refusal};
 
 // A page number, a frame number and a bank number are different kinds of number (rule N1).
@@ -125,4 +126,14 @@ pub fn short_of(n: u32) -> u16
         return n as u16;
     }
     65535
+}
+
+// Both of two tests, of which neither is left out: a loop of such tests can be done many at a time.
+pub fn both(one: bool, two: bool) -> bool
+    ensures { λ r. ⌜ r ≡ (one && two) ⌝ }
+{
+    if one {
+        return two;
+    }
+    false
 }

@@ -2,7 +2,6 @@
 -- What is sound passes the other tests as well.
 use Prim.Native.Nat.{ℕ, zero, suc, _+_, _-_, _≤_, _<_}
 use native.Mathlib.Omega.{arith}
-use native.Mathlib.Numerals.{add-one}
 use mathlib.Core.Bool.{Bool, true, false, _&&_}
 use mathlib.Core.Path.{_≡_, refl, sym, _∙_}
 use mathlib.Core.List.{List, [], _∷_, map}
@@ -43,11 +42,6 @@ use Rattle.session.specs.Tests.{
 use Rattle.session.specs.ReferLaws.{Bounds, start-bounds, accepted-below}
 use Rattle.session.specs.TotalLaws.{zeros-total, frequencies-total}
 use Rattle.session.specs.TestLaws.{value-countable}
-
--- one more passes, so all up to it do
-pub all-next : (p : ℕ → Bool) (i : ℕ) → allBelow p i ≡ true → p i ≡ true → allBelow p (i + 1) ≡ true
-unfolding allBelow
-all-next p i all one = rw (add-one i, all, one)
 
 -- lists whose numbers stand in them once
 times-at : (l : List ℕ) (i : ℕ) → i < length l → 1 ≤ times (getD l i 0) l

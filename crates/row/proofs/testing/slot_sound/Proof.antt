@@ -6,30 +6,43 @@ use Rattle.row.proofs.testing.slot_sound.Statement.{statement}
 use Rattle.row.proofs.testing.slot_sound.Tie as tie
 
 shared-slice-read-frame : tie.Need-shared-slice-read-frame
-shared-slice-read-frame c = let asked = c .before .pre in omega (arith, asked .0, asked .2)
+shared-slice-read-frame c = let asked = c .before .before .before .pre in omega (arith, asked .0, asked .2)
+
+some-frame-requires : tie.Need-some-frame-requires
+some-frame-requires c κs = search needs
+
+cast-place : tie.Need-cast-place
+cast-place c = search needs
+
+shared-slice-read-place : tie.Need-shared-slice-read-place
+shared-slice-read-place c =
+    let asked = c .before .before .before .before .before .pre in
+    omega (arith, asked .1, c .before .some-frame .ensures .0)
 
 returns : tie.Need-returns
-returns c = let asked = c .before .before .pre in slot-empty (asked .0) (asked .2) (c .if1 .taken)
+returns c = let asked = c .before .before .before .before .before .before .pre in slot-empty (asked .0) (asked .2) (omega arith)
 
 returns-2 : tie.Need-returns-2
-returns-2 c =
-    let asked = c .before .before .before .pre in
-    slot-below (asked .0) (asked .2) (c .before .if1 .left) (c .if2 .taken)
+returns-2 c = let asked = c .before .before .before .before .before .before .before .pre in slot-below (asked .0) (asked .2) (omega arith) (omega arith)
 
 cast-result : tie.Need-cast-result
-cast-result c = search needs
-
-shared-slice-read-result : tie.Need-shared-slice-read-result
-shared-slice-read-result c = let asked = c .before .before .before .before .pre in omega (arith, asked .1)
-
-cast-result-2 : tie.Need-cast-result-2
-cast-result-2 c = let asked = c .before .before .before .before .pre in omega (arith, asked .2)
+cast-result c = let asked = c .before .before .before .before .before .before .before .pre in omega (arith, asked .2)
 
 returns-3 : tie.Need-returns-3
 returns-3 c =
-    let asked = c .before .before .before .before .pre in
-    slot-placed (asked .0) (asked .2) (c .before .before .if1 .left) (c .before .if2 .left)
+    let asked = c .before .before .before .before .before .before .before .pre in
+    let here = c .before .before .before .some-frame .ensures .1 (omega arith) in
+    rw here (slot-placed (asked .0) (asked .2) (omega arith) (omega arith))
 
 pub slot-sound-spec : {M : Type 1} → statement M
 slot-sound-spec =
-    tie.close (tie.spec shared-slice-read-frame returns returns-2 cast-result shared-slice-read-result cast-result-2 returns-3)
+    tie.close
+    (tie.spec
+    shared-slice-read-frame
+    some-frame-requires
+    cast-place
+    shared-slice-read-place
+    returns
+    returns-2
+    cast-result
+    returns-3)

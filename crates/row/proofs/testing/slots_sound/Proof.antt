@@ -1,31 +1,27 @@
--- `row::testing::slots_sound` meets its contract. The invariant: every slot so far passes. Assumes nothing.
-use Prim.Native.Nat.{_-_, _≤_}
+-- `row::testing::slots_sound` meets its contract. The invariant is `AllTo`: whether every slot so far passes. Assumes nothing.
+use Prim.Native.Nat.{_-_}
 use native.Mathlib.Omega.{arith}
-use mathlib.Core.Path.{_≡_, sym, _∙_}
-use mathlib.Core.Bool.{true}
+use borrow.Author.Needs.{needs}
 use Rattle.rules.specs.Limits.{slots as slotCount}
-use Rattle.rules.specs.Cases.{turned-true, turned-false}
-use Rattle.rules.specs.AllBelow.{allBelow, all-none, all-next, all-end, all-broken}
+use Rattle.rules.specs.AllBelow.{AllTo, all-start, all-also, all-done}
 use Rattle.row_theory.specs.RowTest.{slotSound}
 use Rattle.row.proofs.testing.slots_sound.Statement.{statement}
 use Rattle.row.proofs.testing.slots_sound.Tie as tie
 
 abbrev Inv-loop : tie.InvT-loop
-Inv-loop slots places front i₀ i = (allBelow (slotSound front slots places) i ≡ true) × (i ≤ slotCount)
+Inv-loop slots places front sound₀ i₀ sound i = AllTo (slotSound front slots places) slotCount i sound
 
 abbrev μ-loop : tie.MeasureT-loop
-μ-loop slots places front i₀ i = slotCount - i
+μ-loop slots places front sound₀ i₀ sound i = slotCount - i
 
 loop-holds : tie.Need-loop-holds Inv-loop μ-loop
-loop-holds c = (all-none _, omega arith)
+loop-holds c = all-start
 
 slot-sound-requires : tie.Need-slot-sound-requires Inv-loop μ-loop
-slot-sound-requires c κs =
-    let asked = c .before .before .before .before .pre in
-    (asked .0, asked .1, omega arith)
+slot-sound-requires c κs = let asked = c .before .before .before .before .pre in (asked .0, asked .1, omega arith)
 
-returns : tie.Need-returns Inv-loop μ-loop
-returns c = sym (all-broken _ slotCount _ (omega arith) (sym (c .before .slot-sound .ensures .is) ∙ turned-true _ (c .if1 .taken)))
+both-requires : tie.Need-both-requires Inv-loop μ-loop
+both-requires c κs = search needs
 
 add-i : tie.Need-add-i Inv-loop μ-loop
 add-i c = omega arith
@@ -35,12 +31,11 @@ loop-less c = omega arith
 
 loop-again : tie.Need-loop-again Inv-loop μ-loop
 loop-again c =
-    let looped = c .before .before .before .loop in
-    (all-next _ (looped .i) (looped .inv .0) (sym (c .before .slot-sound .ensures .is) ∙ turned-false _ (c .if1 .left)), omega arith)
+    all-also (c .before .before .before .loop .inv) (omega arith) (c .before .slot-sound .ensures .is) (c .both .ensures)
 
-returns-2 : tie.Need-returns-2 Inv-loop μ-loop
-returns-2 c = all-end _ slotCount _ (c .before .loop .inv .0) (c .before .loop .inv .1) (c .loop-test .left)
+returns : tie.Need-returns Inv-loop μ-loop
+returns c = all-done (c .before .loop .inv) (c .loop-test .left)
 
 pub slots-sound-spec : {M : Type 1} → statement M
 slots-sound-spec =
-    tie.close (tie.spec Inv-loop μ-loop loop-holds slot-sound-requires returns add-i loop-less loop-again returns-2)
+    tie.close (tie.spec Inv-loop μ-loop loop-holds slot-sound-requires both-requires add-i loop-less loop-again returns)

@@ -22,7 +22,7 @@ returns-2 c = fails _ (λ p. clash (p .slots) (sym (c .before .slots-sound .ensu
 frames-sound-requires : tie.Need-frames-sound-requires
 frames-sound-requires c κs =
     let asked = c .before .before .before .before .before .before .pre in
-    record { slots = asked .slots; places = asked .places; states = asked .states }
+    (asked .places, asked .states)
 
 returns-3 : tie.Need-returns-3
 returns-3 c = fails _ (λ p. clash (p .frames) (sym (c .before .frames-sound .ensures) ∙ turned-true _ (c .if3 .taken)))
@@ -33,17 +33,26 @@ held-in-requires c κs = c .before .before .before .before .before .before .befo
 returns-4 : tie.Need-returns-4
 returns-4 c = fails _ (λ p. c .if4 .taken (eqb-true _ _ (p .held) ∙ sym (c .before .held-in .ensures)))
 
-room-sound-requires : tie.Need-room-sound-requires
-room-sound-requires c κs = c .before .before .before .before .before .before .before .before .before .before .pre .slots
+full-in-requires : tie.Need-full-in-requires
+full-in-requires c κs = c .before .before .before .before .before .before .before .before .before .before .pre .slots
 
 returns-5 : tie.Need-returns-5
-returns-5 c =
-    let counted = c .before in
+returns-5 c = fails _ (λ p. c .if5 .taken (eqb-true _ _ (p .full) ∙ sym (c .before .full-in .ensures)))
+
+room-sound-requires : tie.Need-room-sound-requires
+room-sound-requires c κs =
+    c .before .before .before .before .before .before .before .before .before .before .before .before .pre .slots
+
+returns-6 : tie.Need-returns-6
+returns-6 c =
+    let filled = c .before in
+    let counted = filled .before .before in
     let frames-pass = counted .before .before in
     let slots-pass = frames-pass .before .before in
     by-room _ (omega arith) (sym (slots-pass .before .slots-sound .ensures) ∙ turned-false _ (slots-pass .if2 .left))
     (sym (frames-pass .before .frames-sound .ensures) ∙ turned-false _ (frames-pass .if3 .left))
-    (counted .if4 .left ∙ counted .before .held-in .ensures) (c .room-sound .ensures .is)
+    (counted .if4 .left ∙ counted .before .held-in .ensures) (filled .if5 .left ∙ filled .before .full-in .ensures)
+    (c .room-sound .ensures .is)
 
 pub tested-spec : {M : Type 1} → statement M
 tested-spec =
@@ -56,5 +65,7 @@ tested-spec =
     returns-3
     held-in-requires
     returns-4
+    full-in-requires
+    returns-5
     room-sound-requires
-    returns-5)
+    returns-6)

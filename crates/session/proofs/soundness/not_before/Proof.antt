@@ -5,9 +5,8 @@ use mathlib.Core.Bool.{true}
 use mathlib.Core.Path.{_≡_, refl, sym, _∙_}
 use borrow.Author.Needs.{needs}
 use borrow.Author.Tests.{eq-eqb, ne-eqb}
-use Rattle.rules.specs.AllBelow.{allBelow, all-broken}
+use Rattle.rules.specs.AllBelow.{allBelow, all-next, all-broken}
 use Rattle.session.specs.Tests.{standsElse}
-use Rattle.session.specs.SoundLaws.{all-next}
 use Rattle.session.proofs.soundness.not_before.Statement.{statement}
 use Rattle.session.proofs.soundness.not_before.Tie as tie
 

@@ -6,9 +6,8 @@ use mathlib.Core.Path.{_≡_, refl, sym, _∙_}
 use borrow.Author.Needs.{needs}
 use borrow.Author.Tests.{not-true, not-false}
 use Rattle.rules.specs.Limits.{capacities}
-use Rattle.rules.specs.AllBelow.{allBelow, all-broken}
+use Rattle.rules.specs.AllBelow.{allBelow, all-next, all-broken}
 use Rattle.session.specs.Tests.{placeStands}
-use Rattle.session.specs.SoundLaws.{all-next}
 use Rattle.session.proofs.soundness.places_stand.Statement.{statement}
 use Rattle.session.proofs.soundness.places_stand.Tie as tie
 
