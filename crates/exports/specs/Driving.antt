@@ -1,13 +1,14 @@
 -- For whoever drives a session through the exported calls: what an accepted start leaves passes the tests of the other
 -- calls, and so does what each of them leaves. What crate session proves of every memory that a start and calls gave says
 -- it for these.
-use Prim.Native.Nat.{ℕ}
+use Prim.Native.Nat.{ℕ, suc}
 use native.Mathlib.Omega.{arith}
 use mathlib.Core.Bool.{not, true}
 use mathlib.Core.Path.{_≡_, sym, _∙_}
 use mathlib.Core.List.{List, []}
 use lib.Dec.{leb}
-use Rattle.rules.specs.Limits.{opt, isCapacity}
+use lib.ListN.{length}
+use Rattle.rules.specs.Limits.{capacities, opt, isCapacity}
 use Rattle.rules.specs.Cases.{by-cases}
 use Rattle.rules.specs.Refusals.{numberOf}
 use Rattle.rules.specs.Told.{Told}
@@ -20,6 +21,7 @@ use Rattle.session.specs.Tests.{fits, countable, sound}
 use Rattle.session.specs.StartLaws.{start-begun, start-gives}
 use Rattle.session.specs.TestLaws.{value-fits, value-countable, fits-after}
 use Rattle.session.specs.SoundLaws.{given-sound, sound-countable, countable-fits}
+use Rattle.session.specs.CountableLaws.{countable-after}
 use Rattle.exports.specs.Session.{startLent, StartTold, ReferTold}
 
 -- the tests of all calls
@@ -66,3 +68,11 @@ module _ {before after : Lent} {page : ℕ} {answer : Told} (p : ReferTold befor
   refer-fits passed =
       let left : after ≡ afterReference before page = p .memory ∙ rw passed in
       rw left (fits-after before page passed)
+
+  -- and what hits and misses are told of; the table of depths has its 65 places
+  pub refer-countable : length (before .depths) ≡ suc capacities → countable (before .value) (before .depths) ≡ true
+      → countable (after .value) (after .depths) ≡ true
+  refer-countable long passed =
+      let numbers = countable-fits (before .value) (before .depths) passed .0 in
+      let left : after ≡ afterReference before page = p .memory ∙ rw numbers in
+      rw left (countable-after before page long passed)

@@ -22,3 +22,4 @@ pub mod ReadLaws
 pub mod TotalLaws
 pub mod TestLaws
 pub mod SoundLaws
+pub mod CountableLaws

@@ -49,7 +49,7 @@ total-bump d (suc n) table h =
         (λ e. rw (i, bump-other d n table ne, e, le-ltb d (suc n) (omega (arith, ltb-false d n e))) (omega arith))
 
 -- a number inside the table, and all of the table
-total-one-more : (d n : ℕ) (table : List ℕ) → length table ≡ n → d < n → total (bump d table) n ≡ total table n + 1
+pub total-one-more : (d n : ℕ) (table : List ℕ) → length table ≡ n → d < n → total (bump d table) n ≡ total table n + 1
 unfolding one
 total-one-more d n table long h = total-bump d n table (omega arith) ∙ rw (lt-ltb d n h)
 
