@@ -13,6 +13,7 @@ use rules::HELD;
 use rules::SLOTS;
 use rules::both;
 ghost use mathlib.Core.Path.{_≡_};
+ghost use mathlib.Core.Bool.{cond};
 ghost use Prim.Native.Nat.{_<_};
 ghost use lib.ListN.{length};
 ghost use Rattle.rules.specs.Limits.{frames, slots as slotCount};
@@ -34,21 +35,26 @@ fn some_frame(x: u8) -> u8
     0
 }
 
-// A slot holds a frame whose place it is, and is not below the front; or it is empty. The place is read in any case: which
-// slots are full cannot be foretold, and a wrong guess costs more than the reading.
+// One of two tests, without a branch.
+fn pick(test: bool, yes: bool, otherwise: bool) -> bool
+    ensures { λ r. ⌜ r ≡ cond test yes otherwise ⌝ }
+{
+    if test {
+        return yes;
+    }
+    otherwise
+}
+
+// A slot holds a frame whose place it is, and is not below the front; or it is empty. All is read and compared in any case:
+// which slots are full cannot be foretold, and a wrong guess costs more than what it would spare.
 fn slot_sound(slots: &[u8], places: &[u8], front: usize, slot: usize) -> bool
     requires { ⌜ (length (now slots) ≡ slotCount) × (length (now places) ≡ frames) × (slot < slotCount) ⌝ }
     ensures { λ r. ⌜ SlotTested (now (slots .entry)) (now (places .entry)) front slot r ⌝ }
 {
     let frame = slots[slot];
-    let place = places[some_frame(frame) as usize];
-    if FRAMES <= frame {
-        return frame == EMPTY;
-    }
-    if slot < front {
-        return false;
-    }
-    place == slot as u8
+    let placed = places[some_frame(frame) as usize] == slot as u8;
+    let stands = both(front <= slot, placed);
+    pick(frame < FRAMES, stands, frame == EMPTY)
 }
 
 // A held frame has a place; an absent one has none.

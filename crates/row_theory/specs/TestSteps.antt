@@ -5,12 +5,12 @@ use native.Mathlib.Nat.{not-suc-le-zero, le-of-suc-le-suc}
 use native.Mathlib.Numerals.{add-one}
 use native.Mathlib.Omega.{arith}
 use mathlib.Core.Path.{_≡_, refl, sym, _∙_, ap}
-use mathlib.Core.Bool.{Bool, true, false, cond}
+use mathlib.Core.Bool.{Bool, true, false, cond, _&&_}
 use mathlib.Core.List.{List, [], _∷_}
 use lib.Dec.{leb, ltb, eqb}
 use lib.ListN.{List·getD-eq-default, length, getD, take}
 use lib.Seq.{take-all}
-use borrow.Author.Tests.{eq-eqb, ne-eqb, lt-ltb, le-ltb, le-leb, lt-leb}
+use borrow.Author.Tests.{eq-eqb, ne-eqb, lt-ltb, le-ltb, le-leb, lt-leb, ltb-true}
 use Rattle.rules.specs.Limits.{frames}
 use Rattle.rules.specs.Limits
 use Rattle.rules.specs.Cases.{by-cases}
@@ -29,22 +29,21 @@ inside-reads (x ∷ l) (suc i) d e inside = inside-reads l i d e (le-of-suc-le-s
 pub record SlotTested (slots places : List ℕ) (front slot : ℕ) (r : Bool) : Type 0 where
   pub is : r ≡ slotSound front slots places slot
 
-module _ {slots places : List ℕ} {front slot : ℕ} (long : length slots ≡ Limits.slots) (low : slot < Limits.slots) where
-  pub slot-empty : frames ≤ getD slots slot 0 → SlotTested slots places front slot (eqb (getD slots slot 0) empty)
-  slot-empty past =
-      let same = inside-reads slots slot 0 empty (omega arith) in
-      record { is = unfold slotSound in rw (← same, le-ltb (getD slots slot 0) frames past) }
-
-  pub slot-below : getD slots slot 0 < frames → slot < front → SlotTested slots places front slot false
-  slot-below small under =
-      let same = inside-reads slots slot 0 empty (omega arith) in
-      record { is = unfold slotSound in rw (← same, lt-ltb (getD slots slot 0) frames small, lt-leb front slot under) }
-
-  pub slot-placed : getD slots slot 0 < frames → front ≤ slot →
-      SlotTested slots places front slot (eqb (getD places (getD slots slot 0) 0) slot)
-  slot-placed small above =
-      let same = inside-reads slots slot 0 empty (omega arith) in
-      record { is = unfold slotSound in rw (← same, lt-ltb (getD slots slot 0) frames small, le-leb front slot above) }
+-- the place is read at any frame; where the slot holds one it is that one's
+pub slot-tested : {slots places : List ℕ} {front slot at : ℕ} {stands r : Bool} → length slots ≡ Limits.slots →
+    slot < Limits.slots → (getD slots slot 0 < frames → at ≡ getD slots slot 0) →
+    stands ≡ (leb front slot && eqb (getD places at 0) slot) →
+    r ≡ cond (ltb (getD slots slot 0) frames) stands (eqb (getD slots slot 0) empty) → SlotTested slots places front slot r
+unfolding slotSound
+slot-tested {slots} {places} {front} {slot} {at} long low there stands is =
+    let x = getD slots slot 0 in
+    let same = inside-reads slots slot 0 empty (omega arith) in
+    record {
+      is =
+          is ∙
+          rw (← same)
+          (by-cases (ltb x frames) (λ e. rw e (stands ∙ rw (there (ltb-true x frames e)))) (λ e. rw e));
+    }
 
 -- one frame
 pub record FrameTested (places states : List ℕ) (frame : ℕ) (r : Bool) : Type 0 where
