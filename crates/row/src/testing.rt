@@ -20,20 +20,10 @@ ghost use Rattle.rules.specs.Limits.{frames, slots as slotCount};
 ghost use Rattle.rules.specs.AllBelow.{allBelow};
 ghost use Rattle.row_theory.specs.States.{heldIn};
 ghost use Rattle.row_theory.specs.Slots.{framesIn};
-ghost use Rattle.row_theory.specs.RowTest.{slotSound, frameSound, rowSound, RowTested};
+ghost use Rattle.row_theory.specs.RowTest.{slotSound, frameSound, placeSound, rowSound, RowTested};
 ghost use Rattle.row_theory.specs.TestParts.{Sized};
-ghost use Rattle.row_theory.specs.TestSteps.{SlotTested, FrameTested, RoomTested, fullBit};
+ghost use Rattle.row_theory.specs.TestSteps.{SlotTested, FrameTested, PlaceTested, RoomTested, fullBit};
 ghost use Rattle.row_theory.specs.LentRow.{askedMemory};
-
-// A frame to read the place of, whatever the slot holds.
-fn some_frame(x: u8) -> u8
-    ensures { λ r. ⌜ (r < frames) × (x < frames → r ≡ x) ⌝ }
-{
-    if x < FRAMES {
-        return x;
-    }
-    0
-}
 
 // One of two tests, without a branch.
 fn pick(test: bool, yes: bool, otherwise: bool) -> bool
@@ -45,16 +35,32 @@ fn pick(test: bool, yes: bool, otherwise: bool) -> bool
     otherwise
 }
 
-// A slot holds a frame whose place it is, and is not below the front; or it is empty. All is read and compared in any case:
-// which slots are full cannot be foretold, and a wrong guess costs more than what it would spare.
-fn slot_sound(slots: &[u8], places: &[u8], front: usize, slot: usize) -> bool
-    requires { ⌜ (length (now slots) ≡ slotCount) × (length (now places) ≡ frames) × (slot < slotCount) ⌝ }
-    ensures { λ r. ⌜ SlotTested (now (slots .entry)) (now (places .entry)) front slot r ⌝ }
+// A slot that holds a frame is not below the front; any other is empty. All numbers are bytes, of which sixteen are compared
+// at a time.
+fn slot_sound(slots: &[u8], front: u8, slot: u8) -> bool
+    requires { ⌜ (length (now slots) ≡ slotCount) × (slot < slotCount) ⌝ }
+    ensures { λ r. ⌜ SlotTested (now (slots .entry)) front slot r ⌝ }
 {
-    let frame = slots[slot];
-    let placed = places[some_frame(frame) as usize] == slot as u8;
-    let stands = both(front <= slot, placed);
-    pick(frame < FRAMES, stands, frame == EMPTY)
+    let frame = slots[slot as usize];
+    pick(frame < FRAMES, front <= slot, frame == EMPTY)
+}
+
+// A slot to read, whatever the place.
+fn some_slot(place: u8) -> usize
+    ensures { λ r. ⌜ (r < slotCount) × (place < slotCount → r ≡ place) ⌝ }
+{
+    place as usize % SLOTS
+}
+
+// A frame that has a place stands there. A slot is read in any case: which frames are held cannot be foretold, and a wrong
+// guess costs more than what it would spare.
+fn place_sound(slots: &[u8], places: &[u8], frame: usize) -> bool
+    requires { ⌜ (length (now slots) ≡ slotCount) × (length (now places) ≡ frames) × (frame < frames) ⌝ }
+    ensures { λ r. ⌜ PlaceTested (now (slots .entry)) (now (places .entry)) frame r ⌝ }
+{
+    let place = places[frame];
+    let stands = slots[some_slot(place)] == frame as u8;
+    pick(place < NOWHERE, stands, true)
 }
 
 // A held frame has a place; an absent one has none.
@@ -73,15 +79,28 @@ fn frame_sound(places: &[u8], states: &[u8], frame: usize) -> bool
     place < NOWHERE
 }
 
-// The loops go on where a slot or a frame has failed: without a way out they are done many at a time.
-fn slots_sound(slots: &[u8], places: &[u8], front: usize) -> bool
-    requires { ⌜ (length (now slots) ≡ slotCount) × (length (now places) ≡ frames) ⌝ }
-    ensures { λ r. ⌜ r ≡ allBelow (slotSound front (now (slots .entry)) (now (places .entry))) slotCount ⌝ }
+// The loops go on where a slot or a frame has failed: without a way out most of them are done many at a time.
+fn slots_sound(slots: &[u8], front: u8) -> bool
+    requires { ⌜ length (now slots) ≡ slotCount ⌝ }
+    ensures { λ r. ⌜ r ≡ allBelow (slotSound front (now (slots .entry))) slotCount ⌝ }
 {
     let mut sound = true;
     let mut i = 0;
-    while i < SLOTS {
-        sound = both(sound, slot_sound(slots, places, front, i));
+    while i < NOWHERE {
+        sound = both(sound, slot_sound(slots, front, i));
+        i += 1;
+    }
+    sound
+}
+
+fn places_sound(slots: &[u8], places: &[u8]) -> bool
+    requires { ⌜ (length (now slots) ≡ slotCount) × (length (now places) ≡ frames) ⌝ }
+    ensures { λ r. ⌜ r ≡ allBelow (placeSound (now (slots .entry)) (now (places .entry))) frames ⌝ }
+{
+    let mut sound = true;
+    let mut i = 0;
+    while i < FRAMES as usize {
+        sound = both(sound, place_sound(slots, places, i));
         i += 1;
     }
     sound
@@ -163,10 +182,13 @@ fn tested(slots: &[u8], places: &[u8], states: &[u8], front: usize, held: usize)
     if SLOTS < front {
         return false;
     }
-    if !slots_sound(slots, places, front) {
+    if !slots_sound(slots, front as u8) {
         return false;
     }
     if !frames_sound(places, states) {
+        return false;
+    }
+    if !places_sound(slots, places) {
         return false;
     }
     if held != held_in(states) {

@@ -1,5 +1,5 @@
--- The test of a row in lent memory (docs/RULES.md, X5): each slot's frame has that slot for its place, each held frame has a place,
--- and as many frames stand in the slots as are held. A row passes it exactly if a fresh row and calls give it (TestLaws).
+-- The test of a row in lent memory (docs/RULES.md, X5): each held frame stands where its place says, and as many frames stand in
+-- the slots as are held. A row passes it exactly if a fresh row and calls give it (TestLaws).
 use Prim.Native.Nat.{ℕ}
 use mathlib.Core.Path.{_≡_}
 use mathlib.Core.Bool.{Bool, true, cond, _&&_}
@@ -17,11 +17,11 @@ use Rattle.row_theory.specs.Promise.{Memory, Stands}
 abbrev pub nowhere : ℕ
 nowhere = Limits.slots
 
--- a slot holds a frame whose place it is, and is not below the front; or it reads "empty"
-unfoldable pub slotSound : ℕ → List ℕ → List ℕ → ℕ → Bool
-slotSound front slots places slot =
+-- a slot that holds a frame is not below the front; any other reads "empty"
+unfoldable pub slotSound : ℕ → List ℕ → ℕ → Bool
+slotSound front slots slot =
     let frame = getD slots slot empty in
-    cond (ltb frame frames) (leb front slot && eqb (getD places frame 0) slot) (eqb frame empty)
+    cond (ltb frame frames) (leb front slot) (eqb frame empty)
 
 -- a held frame has a place, an absent one has none
 unfoldable pub frameSound : List ℕ → List ℕ → ℕ → Bool
@@ -30,6 +30,12 @@ frameSound places states frame =
     cond (eqb (stateOf states frame) absent) (eqb place nowhere)
     (leb (stateOf states frame) busy && ltb place nowhere)
 
+-- a frame that has a place stands there
+unfoldable pub placeSound : List ℕ → List ℕ → ℕ → Bool
+placeSound slots places frame =
+    let place = getD places frame 0 in
+    cond (ltb place nowhere) (eqb (getD slots place empty) frame) true
+
 -- at most 32 frames are held, and fewer where the slot at the front is empty: the frame that filled the row took that slot
 unfoldable pub roomSound : List ℕ → ℕ → ℕ → Bool
 roomSound slots front held = cond (ltb (getD slots front empty) frames) (leb held Limits.held) (ltb held Limits.held)
@@ -37,11 +43,12 @@ roomSound slots front held = cond (ltb (getD slots front empty) frames) (leb hel
 unfoldable pub rowSound : Memory → Bool
 rowSound m =
     leb (m .front) Limits.slots
-    && (allBelow (slotSound (m .front) (m .slots) (m .places)) Limits.slots
+    && (allBelow (slotSound (m .front) (m .slots)) Limits.slots
     && (allBelow (frameSound (m .places) (m .states)) frames
+    && (allBelow (placeSound (m .slots) (m .places)) frames
     && (eqb (m .held) (heldIn (m .states))
     && (eqb (m .held) (length (framesIn (m .slots)))
-    && roomSound (m .slots) (m .front) (m .held)))))
+    && roomSound (m .slots) (m .front) (m .held))))))
 
 -- what testing a row answers: the test, and so whether a fresh row and calls give the row
 pub record RowTested (m : Memory) (r : Bool) : Type 0 where

@@ -1,4 +1,4 @@
--- Sums over the frames: how many frames stand in the slots and how many are held, frame by frame. Where each frame stands at most as
+-- Sums over the frames: how many frames stand in the slots and how many are held, frame by frame. Where each frame stands at least as
 -- often as its state says, and as many stand as are held, each stands as often as its state says.
 use Prim.Native.Nat.{ℕ, zero, suc, _+_, _<_, _≤_}
 use native.Mathlib.Nat.{le-refl}
@@ -84,9 +84,11 @@ sums-meet g h (suc n) each same i low =
     sums-meet g h n (λ j below. each j (omega arith)) (omega (arith, same)) i (omega arith))
 
 pub all-stand : (slots states : List ℕ) → length states ≡ frames → length (framesIn slots) ≡ heldIn states →
-    ((f : ℕ) → f < frames → times f slots ≤ heldBit (getD states f 0)) →
+    ((f : ℕ) → f < frames → heldBit (getD states f 0) ≤ times f slots) →
     (f : ℕ) → f < frames → times f slots ≡ heldBit (getD states f 0)
-all-stand slots states wide many each =
+all-stand slots states wide many each f small =
     let held : heldIn states ≡ sumTo (λ f. heldBit (getD states f 0)) frames =
     ap heldIn (sym (take-length states) ∙ ap (λ (n : ℕ). take n states) wide) ∙ held-sum states frames (omega arith) in
-    sums-meet (λ f. times f slots) (λ f. heldBit (getD states f 0)) frames each (omega (arith, frames-sum slots, many, held))
+    sym
+    (sums-meet (λ f. heldBit (getD states f 0)) (λ f. times f slots) frames each (omega (arith, frames-sum slots, many, held)) f
+    small)

@@ -1,12 +1,12 @@
 -- The test of a row (RowTest) is exact: lent memory passes it exactly if a fresh row and calls give it.
-use Prim.Native.Nat.{ℕ, _-_, _<_, _≤_}
+use Prim.Native.Nat.{ℕ, _-_, _<_}
 use native.Mathlib.Omega.{arith}
-use mathlib.Core.Path.{_≡_, refl, sym, _∙_, ap}
+use mathlib.Core.Path.{_≡_, sym, _∙_, ap}
 use mathlib.Core.Bool.{Bool, true}
 use mathlib.Core.List.{List, []}
 use lib.Dec.{leb, ltb, eqb}
 use lib.ListN.{length, getD}
-use borrow.Author.Tests.{eq-eqb, eqb-true, lt-ltb, ltb-true, ltb-false, le-leb, leb-false}
+use borrow.Author.Tests.{eq-eqb, eqb-true, eqb-false, lt-ltb, ltb-true, ltb-false, le-leb, leb-false}
 use Rattle.rules.specs.Limits.{frames}
 use Rattle.rules.specs.Limits
 use Rattle.rules.specs.Cases.{by-cases}
@@ -15,14 +15,14 @@ use Rattle.rules.specs.AllBelow.{all-make}
 use Rattle.row_theory.specs.States.{absent, busy, stateOf, heldBit, heldIn}
 use Rattle.row_theory.specs.Slots.{empty, framesIn, slotOf}
 use Rattle.row_theory.specs.Promise.{Memory, rowIn, Stands}
-use Rattle.row_theory.specs.RowTest.{nowhere, slotSound, frameSound, roomSound, rowSound, RowTested}
-use Rattle.row_theory.specs.StateLaws.{heldBit-absent, heldBit-small}
-use Rattle.row_theory.specs.PlaceLaws.{placesIn-length, placesIn-at, slotOf-inside, slotOf-none}
+use Rattle.row_theory.specs.RowTest.{nowhere, slotSound, frameSound, placeSound, roomSound, rowSound, RowTested}
+use Rattle.row_theory.specs.StateLaws.{heldBit-absent}
+use Rattle.row_theory.specs.PlaceLaws.{placesIn-length, placesIn-at, slotOf-inside, slotOf-there, slotOf-none}
 use Rattle.row_theory.specs.PromiseLaws.{ordered}
 use Rattle.row_theory.specs.Tidy.{Tidy, tidy}
 use Rattle.row_theory.specs.Rebuilt.{rebuilt}
 use Rattle.row_theory.specs.TestParts.{Sized, passed, passes-all}
-use Rattle.row_theory.specs.TestTidy.{slotOf-is, held-some, sound-tidy, sound-index}
+use Rattle.row_theory.specs.TestTidy.{held-some, sound-tidy, sound-index}
 
 -- X5: what passes the test is what a fresh row and calls give
 pub sound-stands : {m : Memory} → Sized m → rowSound m ≡ true → Stands m
@@ -38,17 +38,14 @@ module _ {m : Memory} (stands : Stands m) where
   place-is : (f : ℕ) → f < frames → getD (m .places) f 0 ≡ slotOf f (m .slots)
   place-is f small = ap (λ (l : List ℕ). getD l f 0) (stands .index) ∙ placesIn-at (m .slots) f small
 
-  slot-passes : (i : ℕ) → i < Limits.slots → slotSound (m .front) (m .slots) (m .places) i ≡ true
+  slot-passes : (i : ℕ) → i < Limits.slots → slotSound (m .front) (m .slots) i ≡ true
   unfolding slotSound
   slot-passes i low =
       let x = getD (m .slots) i empty in
       by-cases (ltb x frames)
       (λ e. let small : x < frames = ltb-true x frames e in
-      let above : leb (m .front) i ≡ true =
-      by-cases (leb (m .front) i) (λ l. l) (λ l. absurd (omega (arith, it .clear i (leb-false (m .front) i l)))) in
-      let most : times x (m .slots) ≤ 1 = omega (arith, it .once x small, heldBit-small (stateOf (m .states) x)) in
-      let here = place-is x small ∙ slotOf-is x (m .slots) i empty (omega (arith, it .long)) refl most in
-      rw (e, above) (eq-eqb (getD (m .places) x 0) i here))
+      rw e
+      (by-cases (leb (m .front) i) (λ l. l) (λ l. absurd (omega (arith, it .clear i (leb-false (m .front) i l))))))
       (λ e. rw e (eq-eqb x empty (omega (arith, it .slots i, ltb-false x frames e))))
 
   frame-passes : (f : ℕ) → f < frames → frameSound (m .places) (m .states) f ≡ true
@@ -64,6 +61,21 @@ module _ {m : Memory} (stands : Stands m) where
       let inside : place < nowhere = omega (arith, place-is f small, slotOf-inside f (m .slots) some, it .long) in
       rw (e, le-leb state busy (it .states f)) (lt-ltb place nowhere inside))
 
+  place-passes : (f : ℕ) → f < frames → placeSound (m .slots) (m .places) f ≡ true
+  unfolding placeSound
+  place-passes f small =
+      let place = getD (m .places) f 0 in
+      by-cases (ltb place nowhere)
+      (λ e. let low : place < nowhere = ltb-true place nowhere e in
+      let some : 0 < times f (m .slots) =
+      by-cases (eqb (times f (m .slots)) 0)
+      (λ z. let none = slotOf-none f (m .slots) (eqb-true (times f (m .slots)) 0 z) in
+      absurd (omega (arith, place-is f small, none, it .long)))
+      (λ z. omega (arith, eqb-false (times f (m .slots)) 0 z)) in
+      let there = ap (λ (k : ℕ). getD (m .slots) k empty) (place-is f small) ∙ slotOf-there f (m .slots) empty some in
+      rw e (eq-eqb (getD (m .slots) place empty) f there))
+      (λ e. rw e)
+
   room-passes : roomSound (m .slots) (m .front) (m .held) ≡ true
   unfolding roomSound
   room-passes =
@@ -77,8 +89,9 @@ module _ {m : Memory} (stands : Stands m) where
       passes-all
       (record {
         front = le-leb (m .front) Limits.slots (it .inside);
-        slots = all-make (slotSound (m .front) (m .slots) (m .places)) Limits.slots slot-passes;
+        slots = all-make (slotSound (m .front) (m .slots)) Limits.slots slot-passes;
         frames = all-make (frameSound (m .places) (m .states)) frames frame-passes;
+        places = all-make (placeSound (m .slots) (m .places)) frames place-passes;
         held = eq-eqb (m .held) (heldIn (m .states)) (it .number);
         full = eq-eqb (m .held) (length (framesIn (m .slots))) (it .number ∙ sym (ordered (stands .reached) .sound .many));
         room = room-passes;

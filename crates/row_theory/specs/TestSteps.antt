@@ -5,7 +5,7 @@ use native.Mathlib.Nat.{not-suc-le-zero, le-of-suc-le-suc}
 use native.Mathlib.Numerals.{add-one}
 use native.Mathlib.Omega.{arith}
 use mathlib.Core.Path.{_≡_, refl, sym, _∙_, ap}
-use mathlib.Core.Bool.{Bool, true, false, cond, _&&_}
+use mathlib.Core.Bool.{Bool, true, false, cond}
 use mathlib.Core.List.{List, [], _∷_}
 use lib.Dec.{leb, ltb, eqb}
 use lib.ListN.{List·getD-eq-default, length, getD, take}
@@ -16,7 +16,7 @@ use Rattle.rules.specs.Limits
 use Rattle.rules.specs.Cases.{by-cases}
 use Rattle.row_theory.specs.States.{absent, busy, stateOf, heldBit, heldIn}
 use Rattle.row_theory.specs.Slots.{empty, framesIn}
-use Rattle.row_theory.specs.RowTest.{nowhere, slotSound, frameSound, roomSound}
+use Rattle.row_theory.specs.RowTest.{nowhere, slotSound, frameSound, placeSound, roomSound}
 use Rattle.row_theory.specs.StateLaws.{heldBit-small}
 
 -- what is read within a list does not depend on what is read past its end
@@ -26,23 +26,33 @@ inside-reads (x ∷ l) zero d e inside = refl
 inside-reads (x ∷ l) (suc i) d e inside = inside-reads l i d e (le-of-suc-le-suc inside)
 
 -- one slot
-pub record SlotTested (slots places : List ℕ) (front slot : ℕ) (r : Bool) : Type 0 where
-  pub is : r ≡ slotSound front slots places slot
+pub record SlotTested (slots : List ℕ) (front slot : ℕ) (r : Bool) : Type 0 where
+  pub is : r ≡ slotSound front slots slot
 
--- the place is read at any frame; where the slot holds one it is that one's
-pub slot-tested : {slots places : List ℕ} {front slot at : ℕ} {stands r : Bool} → length slots ≡ Limits.slots →
-    slot < Limits.slots → (getD slots slot 0 < frames → at ≡ getD slots slot 0) →
-    stands ≡ (leb front slot && eqb (getD places at 0) slot) →
-    r ≡ cond (ltb (getD slots slot 0) frames) stands (eqb (getD slots slot 0) empty) → SlotTested slots places front slot r
+pub slot-tested : {slots : List ℕ} {front slot : ℕ} {r : Bool} → length slots ≡ Limits.slots → slot < Limits.slots →
+    r ≡ cond (ltb (getD slots slot 0) frames) (leb front slot) (eqb (getD slots slot 0) empty) → SlotTested slots front slot r
 unfolding slotSound
-slot-tested {slots} {places} {front} {slot} {at} long low there stands is =
-    let x = getD slots slot 0 in
+slot-tested {slots} {front} {slot} long low is =
     let same = inside-reads slots slot 0 empty (omega arith) in
+    record { is = rw (← same) is }
+
+-- one frame's place: a slot is read in any case, and where the frame has one it is that one
+pub record PlaceTested (slots places : List ℕ) (frame : ℕ) (r : Bool) : Type 0 where
+  pub is : r ≡ placeSound slots places frame
+
+pub place-tested : {slots places : List ℕ} {frame at : ℕ} {r : Bool} → length slots ≡ Limits.slots →
+    (getD places frame 0 < nowhere → at ≡ getD places frame 0) →
+    r ≡ cond (ltb (getD places frame 0) nowhere) (eqb (getD slots at 0) frame) true → PlaceTested slots places frame r
+unfolding placeSound
+place-tested {slots} {places} {frame} {at} long there is =
+    let place = getD places frame 0 in
     record {
       is =
-          is ∙
-          rw (← same)
-          (by-cases (ltb x frames) (λ e. rw e (stands ∙ rw (there (ltb-true x frames e)))) (λ e. rw e));
+          is
+          ∙ by-cases (ltb place nowhere)
+          (λ e. let low : place < nowhere = ltb-true place nowhere e in
+          rw (e, there low, inside-reads slots place 0 empty (omega arith)))
+          (λ e. rw e);
     }
 
 -- one frame

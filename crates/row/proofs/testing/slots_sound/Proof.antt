@@ -9,16 +9,16 @@ use Rattle.row.proofs.testing.slots_sound.Statement.{statement}
 use Rattle.row.proofs.testing.slots_sound.Tie as tie
 
 abbrev Inv-loop : tie.InvT-loop
-Inv-loop slots places front sound₀ i₀ sound i = AllTo (slotSound front slots places) slotCount i sound
+Inv-loop slots front sound₀ i₀ sound i = AllTo (slotSound front slots) slotCount i sound
 
 abbrev μ-loop : tie.MeasureT-loop
-μ-loop slots places front sound₀ i₀ sound i = slotCount - i
+μ-loop slots front sound₀ i₀ sound i = slotCount - i
 
 loop-holds : tie.Need-loop-holds Inv-loop μ-loop
 loop-holds c = all-start
 
 slot-sound-requires : tie.Need-slot-sound-requires Inv-loop μ-loop
-slot-sound-requires c κs = let asked = c .before .before .before .before .pre in (asked .0, asked .1, omega arith)
+slot-sound-requires c κs = (c .before .before .before .pre, omega arith)
 
 both-requires : tie.Need-both-requires Inv-loop μ-loop
 both-requires c κs = search needs

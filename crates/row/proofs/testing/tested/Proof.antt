@@ -13,8 +13,11 @@ returns c =
     let front = c .before .before .before .before .args .front in
     fails _ (λ p. omega (arith, leb-true front Limits.slots (p .front)))
 
+cast-slots-sound : tie.Need-cast-slots-sound
+cast-slots-sound c = omega arith
+
 slots-sound-requires : tie.Need-slots-sound-requires
-slots-sound-requires c κs = let asked = c .before .before .before .before .pre in (asked .slots, asked .places)
+slots-sound-requires c κs = c .before .before .before .before .pre .slots
 
 returns-2 : tie.Need-returns-2
 returns-2 c = fails _ (λ p. clash (p .slots) (sym (c .before .slots-sound .ensures) ∙ turned-true _ (c .if2 .taken)))
@@ -27,31 +30,41 @@ frames-sound-requires c κs =
 returns-3 : tie.Need-returns-3
 returns-3 c = fails _ (λ p. clash (p .frames) (sym (c .before .frames-sound .ensures) ∙ turned-true _ (c .if3 .taken)))
 
-held-in-requires : tie.Need-held-in-requires
-held-in-requires c κs = c .before .before .before .before .before .before .before .before .pre .states
+places-sound-requires : tie.Need-places-sound-requires
+places-sound-requires c κs =
+    let asked = c .before .before .before .before .before .before .before .before .pre in
+    (asked .slots, asked .places)
 
 returns-4 : tie.Need-returns-4
-returns-4 c = fails _ (λ p. c .if4 .taken (eqb-true _ _ (p .held) ∙ sym (c .before .held-in .ensures)))
+returns-4 c = fails _ (λ p. clash (p .places) (sym (c .before .places-sound .ensures) ∙ turned-true _ (c .if4 .taken)))
 
-full-in-requires : tie.Need-full-in-requires
-full-in-requires c κs = c .before .before .before .before .before .before .before .before .before .before .pre .slots
+held-in-requires : tie.Need-held-in-requires
+held-in-requires c κs = c .before .before .before .before .before .before .before .before .before .before .pre .states
 
 returns-5 : tie.Need-returns-5
-returns-5 c = fails _ (λ p. c .if5 .taken (eqb-true _ _ (p .full) ∙ sym (c .before .full-in .ensures)))
+returns-5 c = fails _ (λ p. c .if5 .taken (eqb-true _ _ (p .held) ∙ sym (c .before .held-in .ensures)))
+
+full-in-requires : tie.Need-full-in-requires
+full-in-requires c κs = c .before .before .before .before .before .before .before .before .before .before .before .before .pre .slots
+
+returns-6 : tie.Need-returns-6
+returns-6 c = fails _ (λ p. c .if6 .taken (eqb-true _ _ (p .full) ∙ sym (c .before .full-in .ensures)))
 
 room-sound-requires : tie.Need-room-sound-requires
 room-sound-requires c κs =
-    c .before .before .before .before .before .before .before .before .before .before .before .before .pre .slots
+    c .before .before .before .before .before .before .before .before .before .before .before .before .before .before .pre .slots
 
-returns-6 : tie.Need-returns-6
-returns-6 c =
+returns-7 : tie.Need-returns-7
+returns-7 c =
     let filled = c .before in
     let counted = filled .before .before in
-    let frames-pass = counted .before .before in
+    let places-pass = counted .before .before in
+    let frames-pass = places-pass .before .before in
     let slots-pass = frames-pass .before .before in
     by-room _ (omega arith) (sym (slots-pass .before .slots-sound .ensures) ∙ turned-false _ (slots-pass .if2 .left))
     (sym (frames-pass .before .frames-sound .ensures) ∙ turned-false _ (frames-pass .if3 .left))
-    (counted .if4 .left ∙ counted .before .held-in .ensures) (filled .if5 .left ∙ filled .before .full-in .ensures)
+    (sym (places-pass .before .places-sound .ensures) ∙ turned-false _ (places-pass .if4 .left))
+    (counted .if5 .left ∙ counted .before .held-in .ensures) (filled .if6 .left ∙ filled .before .full-in .ensures)
     (c .room-sound .ensures .is)
 
 pub tested-spec : {M : Type 1} → statement M
@@ -59,13 +72,16 @@ tested-spec =
     tie.close
     (tie.spec
     returns
+    cast-slots-sound
     slots-sound-requires
     returns-2
     frames-sound-requires
     returns-3
-    held-in-requires
+    places-sound-requires
     returns-4
-    full-in-requires
+    held-in-requires
     returns-5
+    full-in-requires
+    returns-6
     room-sound-requires
-    returns-6)
+    returns-7)
