@@ -91,10 +91,10 @@ typedef struct musselrung_session {
 } musselrung_session;
 
 /* Which frames are held, in the order of their last put or touch (W1 to W7).
- * X5, tested by every row call and by musselrung_row_sound: front is at most 64, every slot below it reads 64, every slot is at
- * most 64; every state is at most 2; a held frame stands in the slot that its place names, an absent one has place 64; as
- * many slots hold a frame as frames are held, and that number is `held`; it is at most 32, and below 32 where the slot at the
- * front is empty. A row passes exactly if a fresh row and some calls give it. */
+ * X5, tested by every row call and by musselrung_row_sound: front is at most 64; a slot that holds a frame is not below the
+ * front, and any other reads 64; a held frame (state 1 or 2) has a place below 64 and stands in that slot, an absent one has
+ * place 64; as many slots hold a frame as frames are held, and that number is `held`; it is at most 32, and below 32 where the
+ * slot at the front is empty. A row passes exactly if a fresh row and some calls give it. */
 typedef struct musselrung_row {
     uint64_t front;                     /* all slots below it are empty */
     uint64_t held;                      /* how many frames are held */

@@ -54,23 +54,22 @@ impl Row {
     #[inline(always)]
     pub fn is_sound(&self) -> bool {
         let Row { slots, places, states, front, held } = self;
-        if *front > SLOTS || *held > HELD {
+        if *front > SLOTS {
             return false;
         }
-        let (below, above) = slots.split_at(*front);
-        if below.iter().any(|&slot| slot != EMPTY) || above.iter().any(|&slot| slot > EMPTY) {
-            return false;
-        }
-        let filled = above.iter().filter(|&&slot| slot != EMPTY).count();
-        let stands = |frame: usize| match states[frame] {
-            ABSENT => places[frame] == EMPTY,
-            IDLE | BUSY => slots.get(usize::from(places[frame])).is_some_and(|&slot| usize::from(slot) == frame),
-            _ => false,
+        // no way out of a loop, and no branch on what it reads: sixteen bytes at a time where that can be
+        let top = *front as u8;
+        let slot = |ok: bool, (i, &x): (u8, &u8)| ok & if x < FRAMES { top <= i } else { x == EMPTY };
+        let frame = |ok: bool, (&place, &state): (&u8, &u8)| {
+            ok & if state == ABSENT { place == EMPTY } else { (state <= BUSY) & (place < EMPTY) }
         };
-        (0..states.len()).all(stands)
+        let stands = |ok: bool, (f, &place): (u8, &u8)| ok & ((place >= EMPTY) | (slots[usize::from(place) % SLOTS] == f));
+        (0..).zip(slots).fold(true, slot)
+            && places.iter().zip(states).fold(true, frame)
+            && (0..).zip(places).fold(true, stands)
             && states.iter().filter(|&&state| state != ABSENT).count() == *held
-            && filled == *held
-            && (*held < HELD || above.first() != Some(&EMPTY))
+            && slots.iter().filter(|&&x| x < FRAMES).count() == *held
+            && (*held < HELD || *held == HELD && *front < SLOTS && slots[*front] < FRAMES)
     }
 
     /// A call on a row that is sound, made part of the calls of what stands on the row.

@@ -15,6 +15,7 @@ use kept::DEPTHS;
 use rules::CAPACITIES;
 use rules::LFU;
 use rules::PAGES;
+use rules::both;
 
 // The page of an entry.
 fn page_of(entry: u32) -> u16
@@ -23,19 +24,19 @@ fn page_of(entry: u32) -> u16
     (65535 - entry % 65536) as u16
 }
 
-// Do other pages stand in all places before this one?
+// Do other pages stand in all places before this one? The loop goes on where one has failed: without a way out it is done
+// many places at a time.
 fn not_before(places: &[u32; CAPACITIES], page: u16, i: usize) -> bool
     requires { ⌜ i < capacities ⌝ }
     ensures { λ r. ⌜ r ≡ allBelow (standsElse (now (places .entry)) page) i ⌝ }
 {
+    let mut alone = true;
     let mut j = 0;
     while j < i {
-        if page_of(places[j]) == page {
-            return false;
-        }
+        alone = both(alone, page_of(places[j]) != page);
         j += 1;
     }
-    true
+    alone
 }
 
 // Does a page stand in this place, with its count beside it, and in none before?
