@@ -3,9 +3,11 @@
  * Link with libmusselrung.a, which `tools/library` builds. docs/C.md says how, and has the stack, the bytes and the time of
  * each call; docs/RULES.md has the rules that the ids in brackets name.
  *
- * How calls answer. A call answers one number: 0, or the number of the one refusal that applies first, in the order given
- * with the call (A2). What a call tells beside that it writes to its last argument: what an accepted call answers, else 0,
- * or the place of a bad page (A1). A refused call changes nothing else.
+ * How calls answer. A call that can be refused answers 0, or the number of the refusal that applies first, in the order given
+ * with the call (A2). Three kinds cannot: `_fresh` answers nothing, musselrung_report a number of bytes, and `_sound` 1 for
+ * good and 0 for bad. What a call tells beside that, where there is something to tell, it writes to its last argument: what an
+ * accepted call answers, else 0; musselrung_count, _list and _read tell the place of a bad page there (A1). A refused call
+ * changes nothing else. Ids in brackets are those of docs/RULES.md and may be skipped.
  *
  * What stands in a structure. A session, a row and banks are memory that the caller lends. Only these calls should write it,
  * but nothing is taken on trust: each call first tests what it was lent, and answers MUSSELRUNG_UNSOUND, before any other
@@ -14,7 +16,9 @@
  *
  * What the caller owes. Pointers that are not null and lead to as much memory as the declaration says, in which no two
  * arguments of one call overlap; the true length of a trace, a table and a file; and one call at a time on one structure.
- * Calls on different structures may run at once: there is no memory behind them. None allocates or waits. */
+ * Calls on different structures may run at once: there is no memory behind them. None allocates or waits. And no call of a row on
+ * the row inside banks: musselrung_row_put and its like do not look at the gates, and would let a transfer into a bank
+ * without power. */
 #ifndef MUSSELRUNG_H
 #define MUSSELRUNG_H
 
@@ -94,7 +98,7 @@ typedef struct musselrung_session {
  * X5, tested by every row call and by musselrung_row_sound: front is at most 64; a slot that holds a frame is not below the
  * front, and any other reads 64; a held frame (state 1 or 2) has a place below 64 and stands in that slot, an absent one has
  * place 64; as many slots hold a frame as frames are held, and that number is `held`; it is at most 32, and below 32 where the
- * slot at the front is empty. A row passes exactly if a fresh row and some calls give it. */
+ * slot at the front is empty or there is none. A row passes exactly if a fresh row and some calls give it. */
 typedef struct musselrung_row {
     uint64_t front;                     /* all slots below it are empty */
     uint64_t held;                      /* how many frames are held */
@@ -103,7 +107,7 @@ typedef struct musselrung_row {
     uint8_t states[MUSSELRUNG_FRAMES];  /* 0 absent, 1 idle, 2 busy */
 } musselrung_row;
 
-/* A row whose frames lie in four banks that can lose their power (B1 to B6).
+/* A row whose frames lie in four banks that can lose their power (B1 to B6). Its row is for the calls of banks alone.
  * X6, tested by every banks call and by musselrung_banks_sound: X5; the gates of a bank's 16 frames are equal and at most 2, and
  * no frame of an off bank is held. Exact as well. */
 typedef struct musselrung_banks {
@@ -143,7 +147,9 @@ extern "C" {
 
 /* ---- whole traces and files: they keep nothing, so there is nothing to test */
 
-/* The hits of a trace at each capacity 1 to k, into the first k entries of the table (A4); later entries stay.
+/* The hits of a trace at each capacity 1 to k, into the first k entries of the table (A4); later entries stay. `room` is how many
+ * entries it has. LRU gives up the page whose last use is longest ago; LFU the one used least often since the start, at equal
+ * counts the larger page number; OPT the one whose next use is farthest, among those never used again the larger number.
  * 0, and `place` is 0.
  * Refusals: 5 policy, 1 k, 2 references, 4 room, 3 a bad page, whose index from 0 is then in `place`. */
 uint32_t musselrung_count(const uint16_t *trace, uint64_t references, uint32_t policy, uint64_t k, uint32_t *hits,
@@ -155,8 +161,8 @@ uint32_t musselrung_count(const uint16_t *trace, uint64_t references, uint32_t p
 uint32_t musselrung_list(const uint16_t *trace, uint64_t references, uint32_t policy, uint64_t k, uint64_t t,
                          uint16_t places[MUSSELRUNG_CAPACITIES], uint64_t *length);
 
-/* Reads a trace file (F1 to F5): capacities and references into the tables from their start, how many of each into counts[0]
- * and counts[1].
+/* Reads a trace file (F1 to F5): a count and so many capacities, rising, then a count and so many pages, each number two bytes,
+ * low byte first. Capacities and references go into the tables from their start, how many of each into counts[0] and counts[1].
  * 0, and `place` is 0.
  * Refusals, section by section: 8 no count, 9 too many capacities or 2 too many references, 8 values missing, 9 bad
  * capacities; after both sections 10 bytes left, 3 a bad page, whose index from 0 is then in `place`. */
@@ -167,7 +173,7 @@ uint32_t musselrung_read(const uint8_t *file, uint64_t length, uint16_t capaciti
  * behind them is written. Nothing is refused. */
 uint64_t musselrung_report(const uint8_t *file, uint64_t length, uint8_t out[MUSSELRUNG_REPORT]);
 
-/* ---- what is exported over the parts of a structure. The calls below this block pass the parts; use those. */
+/* ---- what is exported over the parts of a structure: skip this block. The calls below it pass the parts; use those. */
 
 uint32_t musselrung_session_start_parts(uint32_t wanted, uint64_t limit, uint8_t *policy, uint64_t *k, uint64_t *length,
                                         uint64_t *references, uint32_t places[MUSSELRUNG_CAPACITIES],
@@ -254,9 +260,11 @@ static inline uint32_t musselrung_session_start(musselrung_session *session, uin
                                           session->places, session->depths, session->counts);
 }
 
-/* One reference: the page goes to place 1 of the list, its depth is counted, and LFU counts the page.
+/* One reference: the page goes to place 1 of the list, its depth is counted, and LFU counts the page, also while it is out of the
+ * list. The page that stood at place 1 goes down: at each place the one that a cache would rather keep stays, and the other goes
+ * on, to the place that the page came from or to the end of the list (M1 to M4).
  * 0, and `depth` is the place where the page stood, 0 if it was not in the list: a hit at every capacity from there on.
- * Refusals: 40 X2, 6 full, 3 page. */
+ * Refusals: 40 X2, 6 full (it can still be read; start anew to go on), 3 page. */
 static inline uint32_t musselrung_session_refer(musselrung_session *session, uint32_t page, uint64_t *depth) {
     return musselrung_session_refer_parts(session->policy, session->k, &session->length, &session->references,
                                           session->places, session->depths, session->counts, page, depth);
@@ -309,14 +317,14 @@ static inline void musselrung_row_fresh(musselrung_row *row) {
 }
 
 /* An absent frame becomes idle, and the most recent.
- * 0, and `examined` is 64 if the slots were squeezed together, else 0 (W5).
+ * 0, and `examined` is 64 if the slots were squeezed together, else 0 (W5): a measure of work, for whoever times calls.
  * Refusals: 40 X5, 20 frame, 21 held already, 25 row full. */
 static inline uint32_t musselrung_row_put(musselrung_row *row, uint32_t frame, uint64_t *examined) {
     return musselrung_row_put_parts(row->slots, row->places, row->states, &row->front, &row->held, frame, examined);
 }
 
 /* A held frame, idle or busy, becomes the most recent.
- * 0, and `examined` is 64 if the slots were squeezed together, else 0 (W5).
+ * 0, and `examined` is 64 if the slots were squeezed together, else 0 (W5): a measure of work, for whoever times calls.
  * Refusals: 40 X5, 20 frame, 22 not held. */
 static inline uint32_t musselrung_row_touch(musselrung_row *row, uint32_t frame, uint64_t *examined) {
     return musselrung_row_touch_parts(row->slots, row->places, row->states, &row->front, &row->held, frame, examined);
@@ -364,7 +372,7 @@ static inline void musselrung_banks_fresh(musselrung_banks *banks) {
 }
 
 /* An absent frame of an open bank becomes idle, and the most recent.
- * 0, and `examined` is 64 if the slots were squeezed together, else 0 (W5).
+ * 0, and `examined` is 64 if the slots were squeezed together, else 0 (W5): a measure of work, for whoever times calls.
  * Refusals: 40 X6, 20 frame, 33 its bank is not open, 21 held already, 25 row full. */
 static inline uint32_t musselrung_banks_put(musselrung_banks *banks, uint32_t frame, uint64_t *examined) {
     return musselrung_banks_put_parts(banks->row.slots, banks->row.places, banks->row.states, &banks->row.front,
@@ -372,7 +380,7 @@ static inline uint32_t musselrung_banks_put(musselrung_banks *banks, uint32_t fr
 }
 
 /* A held frame, idle or busy, becomes the most recent; also in a closing bank (B3).
- * 0, and `examined` is 64 if the slots were squeezed together, else 0 (W5).
+ * 0, and `examined` is 64 if the slots were squeezed together, else 0 (W5): a measure of work, for whoever times calls.
  * Refusals: 40 X6, 20 frame, 22 not held. */
 static inline uint32_t musselrung_banks_touch(musselrung_banks *banks, uint32_t frame, uint64_t *examined) {
     return musselrung_banks_touch_parts(banks->row.slots, banks->row.places, banks->row.states, &banks->row.front,

@@ -93,7 +93,8 @@ module _ (row : Row) (banks : List ℕ) (bank : ℕ) (small : bank < Limits.bank
   in-row frame at = omega arith
 
   -- B2: the last call was a close
-  closed : bankState banks bank ≡ closing → gatedThen (gatedBy row (set banks bank opened)) (ofBank Close bank) ≡ gatedBy row banks
+  closed : bankState banks bank ≡ closing →
+      gatedThen (gatedBy row (set banks bank opened)) (ofBank Close bank) ≡ gatedBy row banks
   unfolding gatedThen rowUnder banksUnder
   closed is =
       let was : bankState (set banks bank opened) bank ≡ opened = getD-set-same banks bank opened off inside in

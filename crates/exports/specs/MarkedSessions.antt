@@ -1,5 +1,5 @@
--- The marked case P17 (docs/RULES.md, "Cases"): what is told of memory that nobody started a session in, and of one that was. What
--- is wanted stands in the rules' own numbers.
+-- The marked case P17 (docs/RULES.md, "Cases"): what is told of memory that nobody started a session in, and of one that was.
+-- What is wanted stands in the rules' own numbers.
 use Prim.Native.Nat.{ℕ}
 use mathlib.Core.Path.{_≡_, refl}
 use mathlib.Core.List.{List, [], _∷_}

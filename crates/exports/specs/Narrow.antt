@@ -1,15 +1,16 @@
 -- C passes a policy and a page as 32 bits, and the proved functions take 8 and 16 (rule X1). A number that does not fit
 -- becomes the largest that does, and both are past every limit: each promise of the narrowed number is one of the number
 -- itself.
-use Prim.Native.Nat.{ℕ, _≤_, min}
+use Prim.Native.Nat.{ℕ, min}
 use native.Mathlib.Omega.{arith}
 use mathlib.Core.Path.{_≡_, _∙_}
 use mathlib.Core.List.{List}
 use lib.Dec.{leb}
 use lib.ListN.{length}
-use borrow.Author.Tests.{le-leb, leb-true, leb-false}
+use borrow.Author.Tests.{le-leb}
 use Rattle.rules.specs.Limits.{references, pages, policies, opt}
 use Rattle.rules.specs.Cases.{by-cases}
+use Rattle.rules.specs.Narrow.{narrow}
 use Rattle.rules.specs.declared.Answer.{Answer}
 use Rattle.kept.specs.Shown.{placesOf}
 use Rattle.count.specs.declared.Listed.{Listed}
@@ -22,16 +23,6 @@ use Rattle.session.specs.Lent.{Lent}
 use Rattle.session.specs.AnyMemory.{depthIn, afterReference}
 use Rattle.session.specs.Answers.{startedAs, fresh, depthAs, Starting, Referring}
 use Rattle.session.specs.ReferAnswers.{refers}
-
-narrow : {A : Type 0} (f : ℕ → A) (most n : ℕ) → (most ≤ n → f most ≡ f n) → f (min n most) ≡ f n
-narrow f most n far =
-    by-cases (leb most n)
-    (λ e.
-    let cut : min n most ≡ most = omega (arith, leb-true most n e) in
-    rw cut (far (leb-true most n e)))
-    (λ e.
-    let whole : min n most ≡ n = omega (arith, leb-false most n e) in
-    rw whole)
 
 module _ {policy k : ℕ} where
   pub count-narrowed : {n : ℕ} {trace before after : List ℕ} {r : Answer} → n ≡ min policy 255 → Counted trace n k before after r

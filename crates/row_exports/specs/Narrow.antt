@@ -1,15 +1,14 @@
--- A frame or a bank comes as 32 bits and is handed on in a byte (docs/RULES.md, X1): a number that does not fit becomes 255, which
--- is no frame's and no bank's either, so that every answer is the same.
+-- A frame or a bank comes as 32 bits and is handed on in a byte (docs/RULES.md, X1): a number that does not fit becomes 255,
+-- which is no frame's and no bank's either, so that every answer is the same.
 use Prim.Native.Nat.{ℕ, _≤_, min}
 use native.Mathlib.Omega.{arith}
-use mathlib.Core.Path.{_≡_, refl, sym, _∙_}
+use mathlib.Core.Path.{_≡_, sym, _∙_}
 use mathlib.Core.Bool.{false, and-false}
 use mathlib.Core.List.{List}
-use lib.Dec.{leb}
-use borrow.Author.Tests.{le-leb, le-ltb, leb-true, leb-false}
+use borrow.Author.Tests.{le-leb, le-ltb}
 use Rattle.rules.specs.Limits.{frames}
 use Rattle.rules.specs.Limits
-use Rattle.rules.specs.Cases.{by-cases}
+use Rattle.rules.specs.Narrow.{narrow}
 use Rattle.rules.specs.Refusals.{badFrame, badBank}
 use Rattle.row_theory.specs.States.{Call, verdictOf, accepts, refusalOf}
 use Rattle.row_theory.specs.Row.{Row, after, replyOf}
@@ -24,12 +23,6 @@ pub record Alike (one two : Call) : Type 0 where
   pub reply : (row : Row) → replyOf row one ≡ replyOf row two
   pub next : (row : Row) → after row one ≡ after row two
 
--- the byte's largest number fits, or both numbers are past the limit
-byte-cases : {A : Type 0} (n limit : ℕ) → limit ≤ 255 → (min n 255 ≡ n → A) → (limit ≤ min n 255 → limit ≤ n → A) → A
-byte-cases n limit low fits past =
-    by-cases (leb n 255) (λ e. let small = leb-true n 255 e in fits (omega arith))
-    (λ e. let large = leb-false n 255 e in past (omega arith) (omega arith))
-
 -- R20: a number that is no frame's
 module _ (row : Row) (event : Event) (frame : ℕ) (past : frames ≤ frame) where
   bad-reply : replyOf row (asked event frame) ≡ refusedReply badFrame
@@ -42,11 +35,14 @@ module _ (row : Row) (event : Event) (frame : ℕ) (past : frames ≤ frame) whe
 
 pub narrow-call : (event : Event) (frame : ℕ) → Alike (asked event (min frame 255)) (asked event frame)
 narrow-call event frame =
-    byte-cases frame frames (omega arith) (λ same. rw same (record { reply = λ row. refl; next = λ row. refl }))
-    (λ low past. record {
-      reply = λ row. bad-reply row event (min frame 255) low ∙ sym (bad-reply row event frame past);
-      next = λ row. bad-after row event (min frame 255) low ∙ sym (bad-after row event frame past);
-    })
+    record {
+      reply = λ row.
+          narrow (λ f. replyOf row (asked event f)) 255 frame
+          (λ past. bad-reply row event 255 (omega arith) ∙ sym (bad-reply row event frame (omega arith)));
+      next = λ row.
+          narrow (λ f. after row (asked event f)) 255 frame
+          (λ past. bad-after row event 255 (omega arith) ∙ sym (bad-after row event frame (omega arith)));
+    }
 
 -- the same of calls under banks
 pub record AlikeUnder (one two : Step) : Type 0 where
@@ -72,11 +68,14 @@ frame-next gated event frame past =
 pub narrow-frame : (event : Event) (frame : ℕ) →
     AlikeUnder (ofFrame (asked event (min frame 255))) (ofFrame (asked event frame))
 narrow-frame event frame =
-    byte-cases frame frames (omega arith) (λ same. rw same (record { reply = λ g. refl; next = λ g. refl }))
-    (λ low past. record {
-      reply = λ g. frame-reply g event (min frame 255) low ∙ sym (frame-reply g event frame past);
-      next = λ g. frame-next g event (min frame 255) low ∙ sym (frame-next g event frame past);
-    })
+    record {
+      reply = λ g.
+          narrow (λ f. replyUnder g (ofFrame (asked event f))) 255 frame
+          (λ past. frame-reply g event 255 (omega arith) ∙ sym (frame-reply g event frame (omega arith)));
+      next = λ g.
+          narrow (λ f. gatedThen g (ofFrame (asked event f))) 255 frame
+          (λ past. frame-next g event 255 (omega arith) ∙ sym (frame-next g event frame (omega arith)));
+    }
 
 -- R32: a number that is no bank's
 bank-refused : (states banks : List ℕ) (gating : Gating) (bank : ℕ) → Limits.banks ≤ bank →
@@ -96,8 +95,11 @@ bank-next gated gating bank past =
 
 pub narrow-bank : (gating : Gating) (bank : ℕ) → AlikeUnder (ofBank gating (min bank 255)) (ofBank gating bank)
 narrow-bank gating bank =
-    byte-cases bank Limits.banks (omega arith) (λ same. rw same (record { reply = λ g. refl; next = λ g. refl }))
-    (λ low past. record {
-      reply = λ g. bank-reply g gating (min bank 255) low ∙ sym (bank-reply g gating bank past);
-      next = λ g. bank-next g gating (min bank 255) low ∙ sym (bank-next g gating bank past);
-    })
+    record {
+      reply = λ g.
+          narrow (λ b. replyUnder g (ofBank gating b)) 255 bank
+          (λ past. bank-reply g gating 255 (omega arith) ∙ sym (bank-reply g gating bank (omega arith)));
+      next = λ g.
+          narrow (λ b. gatedThen g (ofBank gating b)) 255 bank
+          (λ past. bank-next g gating 255 (omega arith) ∙ sym (bank-next g gating bank (omega arith)));
+    }

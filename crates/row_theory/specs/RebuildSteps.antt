@@ -22,7 +22,8 @@ use Rattle.row_theory.specs.StateLaws.{heldIn-set}
 use Rattle.row_theory.specs.PlaceLaws.{emptied-place, slotOf-new}
 use Rattle.row_theory.specs.Tidy.{Tidy}
 use Rattle.row_theory.specs.declared.Event.the-variants.{Put, Start, Drop}
-use Rattle.row_theory.specs.RebuildCalls.{set-back, reached-then, put-takes, start-takes, drop-takes, put-gives, start-gives, drop-gives}
+use Rattle.row_theory.specs.RebuildCalls.{set-back, reached-then, put-takes, start-takes, drop-takes}
+use Rattle.row_theory.specs.RebuildCalls.{put-gives, start-gives, drop-gives}
 
 -- an absent frame, where not all are held
 record Spare (states : List ℕ) : Type 0 where
@@ -172,7 +173,8 @@ module _ {slots states : List ℕ} {front held : ℕ} (it : Tidy (rowWith slots 
     placed =
         let was : stateOf (set states frame absent) frame ≡ absent = getD-set-same states frame absent absent in-states in
         let room : heldIn (set states frame absent) < Limits.held = omega (arith, it .few, it .number, one-less) in
-        let back : set (set states frame absent) frame idle ≡ states = set-back states frame absent idle absent in-states isIdle in
+        let back : set (set states frame absent) frame idle ≡ states =
+        set-back states frame absent idle absent in-states isIdle in
         let row : set (set slots front empty) front frame ≡ slots = set-back slots front empty frame empty in-slots there in
         let number = it .number in
         put-gives (set slots front empty) (set states frame absent) front (held - 1) frame

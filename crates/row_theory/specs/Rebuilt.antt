@@ -24,7 +24,8 @@ use Rattle.row_theory.specs.Counting.{times-there}
 use Rattle.row_theory.specs.Tidy.{Tidy}
 use Rattle.row_theory.specs.declared.Event.the-variants.{Put, Start}
 use Rattle.row_theory.specs.RebuildCalls.{reached-then}
-use Rattle.row_theory.specs.RebuildSteps.{Calm, bit-none, calm-idle, calm-stored, before-start, started, before-put, placed, before-gap, gapped}
+use Rattle.row_theory.specs.RebuildSteps.{Calm, bit-none, calm-idle, calm-stored, before-start, started}
+use Rattle.row_theory.specs.RebuildSteps.{before-put, placed, before-gap, gapped}
 
 -- a tidy row whose front is past the last slot is a fresh one
 times-empty : (n frame : ℕ) → frame < frames → times frame (replicate n empty) ≡ 0

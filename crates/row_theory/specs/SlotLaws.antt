@@ -5,7 +5,7 @@ use native.Mathlib.Omega.{arith}
 use mathlib.Core.Path.{_≡_, refl, sym, _∙_, ap}
 use mathlib.Core.List.{List, [], _∷_, _++_}
 use lib.Dec.{ltb, eqb, lit≤}
-use lib.ListN.{length, getD, set, replicate, length-append, length-replicate}
+use lib.ListN.{length, set, replicate, length-append, length-replicate}
 use lib.Seq.{getD-set-other}
 use borrow.Author.Tests.{ne-eqb, eqb-true, lt-ltb, le-ltb, ltb-true, ltb-false}
 use Rattle.rules.specs.Limits.{frames}

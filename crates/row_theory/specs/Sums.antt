@@ -1,5 +1,5 @@
--- Sums over the frames: how many frames stand in the slots and how many are held, frame by frame. Where each frame stands at least as
--- often as its state says, and as many stand as are held, each stands as often as its state says.
+-- Sums over the frames: how many frames stand in the slots and how many are held, frame by frame. Where each frame stands at
+-- least as often as its state says, and as many stand as are held, each stands as often as its state says.
 use Prim.Native.Nat.{ℕ, zero, suc, _+_, _<_, _≤_}
 use native.Mathlib.Nat.{le-refl}
 use native.Mathlib.Omega.{arith}

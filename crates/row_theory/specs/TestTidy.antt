@@ -146,10 +146,12 @@ module _ {m : Memory} (sized : Sized m) (p : Passed m) where
             by-cases (ltb (getD (m .slots) i empty) frames)
             (λ e. omega (arith, ltb-true (getD (m .slots) i empty) frames e))
             (λ e. omega (arith, says .none (ltb-false (getD (m .slots) i empty) frames e))))
-            (λ past. omega (arith, List·getD-eq-default (m .slots) empty {n = i} (omega (arith, sized .slots, ltb-false i Limits.slots past))));
+            (λ e. let past : length (m .slots) ≤ i = omega (arith, sized .slots, ltb-false i Limits.slots e) in
+            omega (arith, List·getD-eq-default (m .slots) empty {n = i} past));
         states = λ f.
             by-cases (ltb f frames) (λ low. at-frame f (ltb-true f frames low) .known)
-            (λ past. omega (arith, List·getD-eq-default (m .states) absent {n = f} (omega (arith, sized .states, ltb-false f frames past))));
+            (λ e. let past : length (m .states) ≤ f = omega (arith, sized .states, ltb-false f frames e) in
+            omega (arith, List·getD-eq-default (m .states) absent {n = f} past));
         once = stands-once;
         number = eqb-true (m .held) (heldIn (m .states)) (p .held);
         few = room-few (m .slots) (m .front) (m .held) (p .room);

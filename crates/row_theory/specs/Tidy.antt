@@ -15,7 +15,8 @@ use Rattle.rules.specs.Limits
 use Rattle.rules.specs.Cases.{by-cases, clash}
 use Rattle.rules.specs.Lists.{times}
 use Rattle.row_theory.specs.States.{Call, busy, stateOf, heldBit, heldIn, accepts, moves, statesThen}
-use Rattle.row_theory.specs.Slots.{empty, Clear, framesIn, emptied, squeezedFront, squeezed, roomySlots, roomyFront, vacated}
+use Rattle.row_theory.specs.Slots.{empty, Clear, framesIn, emptied, squeezedFront, squeezed, roomySlots, roomyFront}
+use Rattle.row_theory.specs.Slots.{vacated}
 use Rattle.row_theory.specs.Slots.{slotsThen, frontThen}
 use Rattle.row_theory.specs.SlotLaws.{framesIn-frame, framesIn-empty, times-framesIn}
 use Rattle.row_theory.specs.Row.{Row, emptyRow, moved, after}

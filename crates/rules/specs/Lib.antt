@@ -7,6 +7,7 @@ pub mod Lists
 pub mod Lent
 pub mod Told
 pub mod AllBelow
+pub mod Narrow
 -- A marked case, for the table of all cases:
 pub mod Case
 -- Laws:

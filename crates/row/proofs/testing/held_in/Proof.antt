@@ -28,7 +28,11 @@ held-bit-requires : tie.Need-held-bit-requires Inv-loop μ-loop
 held-bit-requires c κs = search needs
 
 add-held : tie.Need-add-held Inv-loop μ-loop
-add-held c = omega (arith, c .before .before .before .loop .inv .few, c .before .before .before .loop .inv .most, c .held-bit .ensures, heldBit-small (getD (c .before .before .before .before .before .args .states .now) (c .before .before .before .loop .i) 0))
+add-held c =
+    let turn = c .before .before .before in
+    let so-far = turn .loop .inv in
+    let read = getD (turn .before .before .args .states .now) (turn .loop .i) 0 in
+    omega (arith, so-far .few, so-far .most, c .held-bit .ensures, heldBit-small read)
 
 add-i : tie.Need-add-i Inv-loop μ-loop
 add-i c = omega arith

@@ -1,4 +1,4 @@
--- `row::testing::places_sound` meets its contract. The invariant is `AllTo`: whether every frame's place so far passes. Assumes nothing.
+-- `row::testing::places_sound` meets its contract. The invariant is `AllTo`: whether every place so far passes. Assumes nothing.
 use Prim.Native.Nat.{_-_}
 use native.Mathlib.Omega.{arith}
 use borrow.Author.Needs.{needs}

@@ -45,7 +45,8 @@ returns-5 : tie.Need-returns-5
 returns-5 c = fails _ (λ p. c .if5 .taken (eqb-true _ _ (p .held) ∙ sym (c .before .held-in .ensures)))
 
 full-in-requires : tie.Need-full-in-requires
-full-in-requires c κs = c .before .before .before .before .before .before .before .before .before .before .before .before .pre .slots
+full-in-requires c κs =
+    c .before .before .before .before .before .before .before .before .before .before .before .before .pre .slots
 
 returns-6 : tie.Need-returns-6
 returns-6 c = fails _ (λ p. c .if6 .taken (eqb-true _ _ (p .full) ∙ sym (c .before .full-in .ensures)))

@@ -35,7 +35,8 @@ returns-2 c =
     let passed = narrowed .before .before .before .before .before .before in
     let asked = passed .before .before .before .before .before .before .before .args in
     banks-told (passed .before .sound .ensures) (turned-false _ (passed .if1 .left))
-    (rw (narrowed .byte-of .ensures) (narrow-frame (asked .event) (asked .frame))) (called .call .ensures) (c .tell-reply .ensures)
+    (rw (narrowed .byte-of .ensures) (narrow-frame (asked .event) (asked .frame))) (called .call .ensures)
+    (c .tell-reply .ensures)
 
 pub call-spec : {M : Type 1} → statement M
 call-spec =
