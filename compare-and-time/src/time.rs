@@ -113,7 +113,7 @@ pub fn sessions<A: Sessions, B: Sessions>() -> Vec<Line> {
 }
 
 /// The library looks for a page that stands twice pair by pair; plain Rust marks pages in a table of its own.
-const PAIRWISE: f64 = 20.0;
+const PAIRWISE: f64 = 15.0;
 
 fn references<S: Sessions>(policy: u32, trace: &[u16]) -> S {
     let mut session = S::start(policy, LIMIT).unwrap();

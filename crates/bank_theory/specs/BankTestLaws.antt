@@ -2,12 +2,12 @@
 use Prim.Native.Nat.{ℕ, _+_, _-_, _*_, _<_, _≤_}
 use native.Mathlib.Omega.{arith}
 use mathlib.Core.Path.{_≡_, refl, sym, _∙_, ap, subst}
-use mathlib.Core.Bool.{Bool, true, false, cond}
+use mathlib.Core.Bool.{Bool, true, false, cond, _&&_}
 use mathlib.Core.List.{List, [], _∷_}
 use lib.Dec.{leb, ltb, eqb}
 use lib.ListN.{length, getD, List·getD-eq-default}
 use lib.Seq.{ext-getD}
-use borrow.Author.Tests.{eq-eqb, ne-eqb, eqb-true, le-leb, leb-true, leb-false, ltb-true, ltb-false}
+use borrow.Author.Tests.{eq-eqb, eqb-true, le-leb, leb-true, leb-false, ltb-true, ltb-false}
 use Rattle.rules.specs.Limits.{frames, bankFrames}
 use Rattle.rules.specs.Limits
 use Rattle.rules.specs.Cases.{by-cases, clash, and-left, and-right}
@@ -211,21 +211,8 @@ banks-passed {m} row passes long is =
 pub record GateTested (gates states : List ℕ) (first frame : ℕ) (r : Bool) : Type 0 where
   pub is : r ≡ gateSound gates states first frame
 
-module _ {gates states : List ℕ} {first frame : ℕ} where
-  pub gate-other : (getD gates frame off ≡ getD gates first off → ⊥) → GateTested gates states first frame false
-  unfolding gateSound
-  gate-other ne = record { is = rw (ne-eqb (getD gates frame off) (getD gates first off) ne) }
-
-  pub gate-off : getD gates frame off ≡ getD gates first off → getD gates frame off ≡ off →
-      GateTested gates states first frame (eqb (stateOf states frame) absent)
-  unfolding gateSound
-  gate-off same is =
-      let alike = eq-eqb (getD gates frame off) (getD gates first off) same in
-      record { is = rw (alike, eq-eqb (getD gates frame off) off is) }
-
-  pub gate-on : getD gates frame off ≡ getD gates first off → (getD gates frame off ≡ off → ⊥) →
-      GateTested gates states first frame (leb (getD gates frame off) closing)
-  unfolding gateSound
-  gate-on same on =
-      let alike = eq-eqb (getD gates frame off) (getD gates first off) same in
-      record { is = rw (alike, ne-eqb (getD gates frame off) off on) }
+pub gate-tested : {gates states : List ℕ} {first frame : ℕ} {fits r : Bool} →
+    fits ≡ cond (eqb (getD gates frame off) off) (eqb (stateOf states frame) absent) (leb (getD gates frame off) closing) →
+    r ≡ (eqb (getD gates frame off) (getD gates first off) && fits) → GateTested gates states first frame r
+unfolding gateSound
+gate-tested fits is = record { is = is ∙ rw fits }

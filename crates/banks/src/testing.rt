@@ -8,6 +8,7 @@ use row_theory::PerSlot;
 use rules::BANK_FRAMES;
 use rules::BANKS;
 use rules::both;
+use rules::pick;
 ghost use mathlib.Core.Path.{_≡_};
 ghost use Prim.Native.Nat.{_<_};
 ghost use lib.ListN.{length};
@@ -23,17 +24,11 @@ fn gate_sound(gates: &[u8], states: &[u8], first: usize, frame: usize) -> bool
     ensures { λ r. ⌜ GateTested (now (gates .entry)) (now (states .entry)) first frame r ⌝ }
 {
     let gate = gates[frame];
-    let state = states[frame];
-    if gate != gates[first] {
-        return false;
-    }
-    if gate == OFF {
-        return state == ABSENT;
-    }
-    gate <= CLOSING
+    let fits = pick(gate == OFF, states[frame] == ABSENT, gate <= CLOSING);
+    both(gate == gates[first], fits)
 }
 
-// So it is of each frame of a bank. As in the row's test no loop stops where one has failed.
+// So it is of each frame of a bank. As in the row's test this loop does not stop where one has failed.
 fn bank_sound(gates: &[u8], states: &[u8], bank: usize) -> bool
     requires { ⌜ (length (now gates) ≡ frames) × (length (now states) ≡ frames) × (bank < bankCount) ⌝ }
     ensures { λ r. ⌜ r ≡ bankSound (now (gates .entry)) (now (states .entry)) bank ⌝ }
@@ -48,17 +43,19 @@ fn bank_sound(gates: &[u8], states: &[u8], bank: usize) -> bool
     sound
 }
 
+// Bank by bank, with a way out: a bank's sixteen gates are compared at once, and not four banks' at a time.
 fn gates_sound(gates: &[u8], states: &[u8]) -> bool
     requires { ⌜ (length (now gates) ≡ frames) × (length (now states) ≡ frames) ⌝ }
     ensures { λ r. ⌜ r ≡ allBelow (bankSound (now (gates .entry)) (now (states .entry))) bankCount ⌝ }
 {
-    let mut sound = true;
     let mut bank = 0;
     while bank < BANKS as usize {
-        sound = both(sound, bank_sound(gates, states, bank));
+        if !bank_sound(gates, states, bank) {
+            return false;
+        }
         bank += 1;
     }
-    sound
+    true
 }
 
 // Are these banks and their row such as fresh ones and calls give?

@@ -12,8 +12,8 @@ use rules::FRAMES;
 use rules::HELD;
 use rules::SLOTS;
 use rules::both;
+use rules::pick;
 ghost use mathlib.Core.Path.{_≡_};
-ghost use mathlib.Core.Bool.{cond};
 ghost use Prim.Native.Nat.{_<_};
 ghost use lib.ListN.{length};
 ghost use Rattle.rules.specs.Limits.{frames, slots as slotCount};
@@ -24,16 +24,6 @@ ghost use Rattle.row_theory.specs.RowTest.{slotSound, frameSound, placeSound, r
 ghost use Rattle.row_theory.specs.TestParts.{Sized};
 ghost use Rattle.row_theory.specs.TestSteps.{SlotTested, FrameTested, PlaceTested, RoomTested, fullBit};
 ghost use Rattle.row_theory.specs.LentRow.{askedMemory};
-
-// One of two tests, without a branch.
-fn pick(test: bool, yes: bool, otherwise: bool) -> bool
-    ensures { λ r. ⌜ r ≡ cond test yes otherwise ⌝ }
-{
-    if test {
-        return yes;
-    }
-    otherwise
-}
 
 // A slot that holds a frame is not below the front; any other is empty. All numbers are bytes, of which sixteen are compared
 // at a time.

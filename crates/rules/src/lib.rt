@@ -3,7 +3,7 @@
 // promises: code that uses one and a promise that cites the other are proved only while both agree.
 ghost use Prim.Native.Nat.{min};
 ghost use mathlib.Core.Path.{_≡_};
-ghost use mathlib.Core.Bool.{_&&_};
+ghost use mathlib.Core.Bool.{cond, _&&_};
 ghost use Rattle.rules.specs.Refusals.{refusal};
 
 // A page number, a frame number and a bank number are different kinds of number (rule N1).
@@ -136,4 +136,14 @@ pub fn both(one: bool, two: bool) -> bool
         return two;
     }
     false
+}
+
+// One of two tests, of which neither is left out.
+pub fn pick(test: bool, yes: bool, otherwise: bool) -> bool
+    ensures { λ r. ⌜ r ≡ cond test yes otherwise ⌝ }
+{
+    if test {
+        return yes;
+    }
+    otherwise
 }

@@ -1,6 +1,6 @@
--- `row::testing::pick`: the branch that is taken knows the test.
-use Rattle.row.proofs.testing.pick.Statement.{statement}
-use Rattle.row.proofs.testing.pick.Tie as tie
+-- `rules::pick`: the branch that is taken knows the test.
+use Rattle.rules.proofs.pick.Statement.{statement}
+use Rattle.rules.proofs.pick.Tie as tie
 
 returns : tie.Need-returns
 returns c = rw (c .if1 .taken)
