@@ -203,9 +203,10 @@ banks-failed {m} row no-row =
 
 pub banks-passed : {m : BankMemory} {r ok : Bool} → RowTested (m .row) ok → ok ≡ true → length (m .gates) ≡ frames →
     r ≡ allBelow (bankSound (m .gates) (m .row .states)) Limits.banks → BanksTested m r
-banks-passed {m} row passes long is =
-    banks-tested (record { row = stands-sized (row .gives passes); gates = long })
-    (unfold banksSound in rw (← row .answer, passes) is)
+banks-passed {m} {r} row passes long is =
+    let sized : SizedUnder m = record { row = stands-sized (row .gives passes); gates = long } in
+    let whole : r ≡ banksSound m = unfold banksSound in rw (← row .answer, passes) is in
+    banks-tested sized whole
 
 -- one gate, as code takes it
 pub record GateTested (gates states : List ℕ) (first frame : ℕ) (r : Bool) : Type 0 where

@@ -1,8 +1,8 @@
 -- Case distinction on a test that keeps what the test said; both halves of a test.
 use Prim.Native.Nat.{ℕ}
 use native.Mathlib.Omega.{arith}
-use mathlib.Core.Bool.{Bool, true, false, not, _&&_}
-use mathlib.Core.Path.{_≡_, refl, sym}
+use mathlib.Core.Bool.{Bool, true, false, _&&_}
+use mathlib.Core.Path.{_≡_, refl}
 
 pub by-cases : {A : Type 0} (b : Bool) → (b ≡ true → A) → (b ≡ false → A) → A
 by-cases true t f = t refl
@@ -20,12 +20,3 @@ pub and-right : (a b : Bool) → (a && b) ≡ true → b ≡ true
 and-right true b e = e
 and-right false true e = refl
 and-right false false e = e
-
--- a test turned round
-pub turned-true : (b : Bool) → not b ≡ true → b ≡ false
-turned-true true e = sym e
-turned-true false e = refl
-
-pub turned-false : (b : Bool) → not b ≡ false → b ≡ true
-turned-false true e = refl
-turned-false false e = sym e

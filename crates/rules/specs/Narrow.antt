@@ -1,5 +1,5 @@
--- A number handed on in a narrower kind (docs/RULES.md, X1): what is the same of all numbers past the kind's largest is the same of
--- the number that is handed on.
+-- A number handed on in a narrower kind (docs/RULES.md, X1): what is the same of all numbers past the kind's largest is the
+-- same of the number that is handed on.
 use Prim.Native.Nat.{ℕ, _≤_, min}
 use native.Mathlib.Omega.{arith}
 use mathlib.Core.Path.{_≡_}

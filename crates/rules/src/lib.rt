@@ -119,6 +119,7 @@ pub fn byte_of(n: u32) -> u8
     255
 }
 
+// The same in 16 bits, for a page.
 pub fn short_of(n: u32) -> u16
     ensures { λ r. ⌜ r ≡ min n 65535 ⌝ }
 {

@@ -4,8 +4,8 @@ use native.Mathlib.Omega.{arith}
 use mathlib.Core.Path.{refl, sym, _∙_}
 use mathlib.Core.Bool.{true}
 use borrow.Author.Needs.{needs}
+use borrow.Author.Tests.{not-true, not-false}
 use Rattle.rules.specs.Limits
-use Rattle.rules.specs.Cases.{turned-true, turned-false}
 use Rattle.rules.specs.AllBelow.{AllTo, all-start, all-also, all-done, all-broken}
 use Rattle.bank_theory.specs.BankTest.{bankSound}
 use Rattle.banks.proofs.testing.gates_sound.Statement.{statement}
@@ -29,7 +29,7 @@ bank-sound-requires c κs = let asked = c .before .before .before .before .pre i
 returns : tie.Need-returns Inv-loop μ-loop
 returns c =
     sym
-    (all-broken _ Limits.banks _ (omega arith) (sym (c .before .bank-sound .ensures) ∙ turned-true _ (c .if1 .taken)))
+    (all-broken _ Limits.banks _ (omega arith) (sym (c .before .bank-sound .ensures) ∙ not-true _ (c .if1 .taken)))
 
 add-bank : tie.Need-add-bank Inv-loop μ-loop
 add-bank c = omega arith
@@ -40,7 +40,7 @@ loop-less c = omega arith
 loop-again : tie.Need-loop-again Inv-loop μ-loop
 loop-again c =
     all-also (c .before .before .before .loop .inv) (omega arith)
-    (sym (turned-false _ (c .if1 .left)) ∙ c .before .bank-sound .ensures) refl
+    (sym (not-false _ (c .if1 .left)) ∙ c .before .bank-sound .ensures) refl
 
 returns-2 : tie.Need-returns-2 Inv-loop μ-loop
 returns-2 c = all-done (c .before .loop .inv) (c .loop-test .left)

@@ -1,9 +1,9 @@
 -- `row::testing::tested` meets its contract: a part that fails fails the test. Assumes nothing.
 use native.Mathlib.Omega.{arith}
 use mathlib.Core.Path.{sym, _∙_}
-use borrow.Author.Tests.{leb-true, eqb-true}
+use borrow.Author.Tests.{leb-true, eqb-true, not-true, not-false}
 use Rattle.rules.specs.Limits
-use Rattle.rules.specs.Cases.{clash, turned-true, turned-false}
+use Rattle.rules.specs.Cases.{clash}
 use Rattle.row_theory.specs.TestParts.{fails, by-room}
 use Rattle.row.proofs.testing.tested.Statement.{statement}
 use Rattle.row.proofs.testing.tested.Tie as tie
@@ -20,7 +20,7 @@ slots-sound-requires : tie.Need-slots-sound-requires
 slots-sound-requires c κs = c .before .before .before .before .pre .slots
 
 returns-2 : tie.Need-returns-2
-returns-2 c = fails _ (λ p. clash (p .slots) (sym (c .before .slots-sound .ensures) ∙ turned-true _ (c .if2 .taken)))
+returns-2 c = fails _ (λ p. clash (p .slots) (sym (c .before .slots-sound .ensures) ∙ not-true _ (c .if2 .taken)))
 
 frames-sound-requires : tie.Need-frames-sound-requires
 frames-sound-requires c κs =
@@ -28,7 +28,7 @@ frames-sound-requires c κs =
     (asked .places, asked .states)
 
 returns-3 : tie.Need-returns-3
-returns-3 c = fails _ (λ p. clash (p .frames) (sym (c .before .frames-sound .ensures) ∙ turned-true _ (c .if3 .taken)))
+returns-3 c = fails _ (λ p. clash (p .frames) (sym (c .before .frames-sound .ensures) ∙ not-true _ (c .if3 .taken)))
 
 places-sound-requires : tie.Need-places-sound-requires
 places-sound-requires c κs =
@@ -36,7 +36,7 @@ places-sound-requires c κs =
     (asked .slots, asked .places)
 
 returns-4 : tie.Need-returns-4
-returns-4 c = fails _ (λ p. clash (p .places) (sym (c .before .places-sound .ensures) ∙ turned-true _ (c .if4 .taken)))
+returns-4 c = fails _ (λ p. clash (p .places) (sym (c .before .places-sound .ensures) ∙ not-true _ (c .if4 .taken)))
 
 held-in-requires : tie.Need-held-in-requires
 held-in-requires c κs = c .before .before .before .before .before .before .before .before .before .before .pre .states
@@ -62,9 +62,9 @@ returns-7 c =
     let places-pass = counted .before .before in
     let frames-pass = places-pass .before .before in
     let slots-pass = frames-pass .before .before in
-    by-room _ (omega arith) (sym (slots-pass .before .slots-sound .ensures) ∙ turned-false _ (slots-pass .if2 .left))
-    (sym (frames-pass .before .frames-sound .ensures) ∙ turned-false _ (frames-pass .if3 .left))
-    (sym (places-pass .before .places-sound .ensures) ∙ turned-false _ (places-pass .if4 .left))
+    by-room _ (omega arith) (sym (slots-pass .before .slots-sound .ensures) ∙ not-false _ (slots-pass .if2 .left))
+    (sym (frames-pass .before .frames-sound .ensures) ∙ not-false _ (frames-pass .if3 .left))
+    (sym (places-pass .before .places-sound .ensures) ∙ not-false _ (places-pass .if4 .left))
     (counted .if5 .left ∙ counted .before .held-in .ensures) (filled .if6 .left ∙ filled .before .full-in .ensures)
     (c .room-sound .ensures .is)
 

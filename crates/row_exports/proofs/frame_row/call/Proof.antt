@@ -1,6 +1,6 @@
 -- `row_exports::frame_row::call`: 40 where the test fails, else what the proved function promises, told in numbers.
 use borrow.Author.Needs.{needs}
-use Rattle.rules.specs.Cases.{turned-true, turned-false}
+use borrow.Author.Tests.{not-true, not-false}
 use Rattle.row_exports.specs.Narrow.{narrow-call}
 use Rattle.row_exports.specs.RowLaws.{row-unsound, row-told}
 use Rattle.row_exports.proofs.frame_row.call.Statement.{statement}
@@ -15,7 +15,7 @@ unsound-requires c κs = search needs
 returns : tie.Need-returns
 returns c =
     let failed = c .before .before in
-    rw (c .unsound .ensures) (row-unsound (failed .before .sound .ensures) (turned-true _ (failed .if1 .taken)))
+    rw (c .unsound .ensures) (row-unsound (failed .before .sound .ensures) (not-true _ (failed .if1 .taken)))
 
 byte-of-requires : tie.Need-byte-of-requires
 byte-of-requires c κs = search needs
@@ -23,7 +23,7 @@ byte-of-requires c κs = search needs
 call-requires : tie.Need-call-requires
 call-requires c κs =
     let passed = c .before .before .before .before .before .before in
-    passed .before .sound .ensures .gives (turned-false _ (passed .if1 .left))
+    passed .before .sound .ensures .gives (not-false _ (passed .if1 .left))
 
 tell-reply-requires : tie.Need-tell-reply-requires
 tell-reply-requires c κs = search needs
@@ -34,7 +34,7 @@ returns-2 c =
     let narrowed = called .before in
     let passed = narrowed .before .before .before .before .before .before in
     let asked = passed .before .before .before .before .before .before .before .args in
-    row-told (passed .before .sound .ensures) (turned-false _ (passed .if1 .left))
+    row-told (passed .before .sound .ensures) (not-false _ (passed .if1 .left))
     (rw (narrowed .byte-of .ensures) (narrow-call (asked .event) (asked .frame))) (called .call .ensures) (c .tell-reply .ensures)
 
 pub call-spec : {M : Type 1} → statement M
