@@ -40,6 +40,7 @@ fn main() {
         ["compare", ..] => Wanted::from(&words[1..]).and_then(|wanted| wanted.run()),
         ["time"] => {
             let mut lines = time::whole_traces::<of_proved::Proved, of_plain::Plain>();
+            lines.extend(time::tables::<of_proved::Proved, of_plain::Plain>());
             lines.extend(time::sessions::<musselrung::Session, plain::session::Session>());
             lines.extend(time::rows::<musselrung::Row, plain::row::Row>());
             lines.extend(time::banks::<musselrung::Banks, plain::banks::Banks>());

@@ -92,6 +92,24 @@ pub fn whole_traces<A: Counts, B: Counts>() -> Vec<Line> {
     lines
 }
 
+/// Filling a hit table: what a call on a trace of no references takes at the limit, less what it takes at capacity 1.
+pub fn tables<A: Counts, B: Counts>() -> Vec<Line> {
+    let mut a = || empty_traces::<A>(LIMIT) - empty_traces::<A>(1);
+    let mut b = || empty_traces::<B>(LIMIT) - empty_traces::<B>(1);
+    vec![race_timed(format!("filling a hit table of {LIMIT}"), 1.2, TABLES, &mut a, &mut b)]
+}
+
+const TABLES: usize = 500;
+
+fn empty_traces<C: Counts>(k: usize) -> f64 {
+    let mut table = [0; LIMIT];
+    nanoseconds(&mut || {
+        for _ in 0..TABLES {
+            C::count(black_box(&[]), 0, k, black_box(&mut table)).unwrap();
+        }
+    })
+}
+
 /// A reference to a session that is full of pages: each round is a session's 4,096 references, its start not counted in
 /// the units but in the time on both sides.
 pub fn sessions<A: Sessions, B: Sessions>() -> Vec<Line> {
