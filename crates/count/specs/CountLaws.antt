@@ -10,20 +10,20 @@ use borrow.Author.Tests.{lt-ltb, le-ltb, leb-false}
 use Rattle.rules.specs.Limits.{pages}
 use Rattle.rules.specs.Refusals.{refusal, shortTable, badPage}
 use Rattle.rules.specs.FirstBad.{firstBad, first-bad-found, first-bad-none}
-use Rattle.rules.specs.Lists.{valuesFrom}
 use Rattle.rules.specs.Cases.{by-cases}
 use Rattle.rules.specs.declared.Answer.{Answer}
 use Rattle.rules.specs.declared.Answer.the-variants.{Accepted}
 use Rattle.theory.specs.Policy.{policyOf}
 use Rattle.theory.specs.Plain.{hitsUpTo}
 use Rattle.kept.specs.Below.{Below}
-use Rattle.kept.specs.Tally.{tally, upTo}
+use Rattle.kept.specs.Tally.{tally}
+use Rattle.kept.specs.Filled.{filled}
 use Rattle.kept.specs.Memory.{depthsAfter}
 use Rattle.count.specs.declared.runs.Run.{Run}
 use Rattle.count.specs.Count.{countAnswer, countTable, withinLimits, Counted}
 use Rattle.count.specs.Checks.{limitsNumber, limits-refused, limits-passed, limits-within}
 use Rattle.count.specs.Runs.{Fit, Ran}
-use Rattle.count.specs.Table.{Fillable, Filled, sums-are-hits, sum-small}
+use Rattle.count.specs.Table.{filled-hits}
 
 -- all references are pages where none is bad
 pub all-pages : (i : ℕ) (trace : List ℕ) → i + length trace ≤ firstBad i trace → Below pages trace
@@ -78,15 +78,7 @@ module _ (trace : List ℕ) (policy k number : ℕ) (table : List ℕ) (checked 
           depths-at : run .depths ≡ tally (policyOf policy) k (reverse trace) []
           depths-at = ran .running .depths-are ∙ (unfold depthsAfter in rw (take-length trace, drop-length trace))
 
-          pub count-fillable : Fillable (run .depths) k table
-          count-fillable =
-              rw depths-at (record {
-                capacity = count-fit .high;
-                small = omega (arith, sum-small policy k (count-fit .high) trace, count-fit .short);
-                entries = room;
-              })
-
-          pub count-done : {after : List ℕ} → Filled (run .depths) k table after → Counted trace policy k table after Accepted
-          count-done f =
-              count-filled (f .filled ∙ ap (λ (l : List ℕ). l ++ drop k table)
-              (ap (λ (d : List ℕ). valuesFrom (upTo d) 1 k) depths-at ∙ sums-are-hits policy k (count-fit .high) trace))
+          pub count-done : {after : List ℕ} → after ≡ filled (run .depths) k table → Counted trace policy k table after Accepted
+          count-done e =
+              count-filled (e ∙ ap (λ (d : List ℕ). filled d k table) depths-at
+              ∙ filled-hits policy k (count-fit .low) (count-fit .high) trace table (count-fit .short) room)

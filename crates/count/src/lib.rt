@@ -7,7 +7,6 @@ ghost use mathlib.Core.Path.{_≡_};
 
 mod checks;
 mod runs;
-mod table;
 
 use rules::Answer;
 use rules::BAD_PAGE;
@@ -40,7 +39,7 @@ pub fn count(trace: &[u16], policy: u8, k: usize, hits: &mut [u32]) -> Answer
     }
     let run = runs::run_policy(trace, policy, k, trace.len());
     let depths = run.depths;
-    table::fill(&depths, k, hits);
+    kept::fill(&depths, k, hits);
     Answer::Accepted
 }
 

@@ -5,6 +5,7 @@ pub mod Entries
 pub mod Rankings
 pub mod Kept
 pub mod Tally
+pub mod Filled
 pub mod Frequencies
 pub mod Nexts
 pub mod Memory

@@ -1,4 +1,5 @@
 // How often each depth came: a table with a place for each depth from 0, which stands for "not in the list".
+ghost use Rattle.kept.specs.Filled.{filled};
 ghost use Rattle.kept.specs.Tally.{upTo};
 ghost use Rattle.rules.specs.Limits.{capacities};
 ghost use Prim.Native.Nat.{_<_, min};
@@ -27,4 +28,16 @@ fn wide(count: u32) -> usize
     ensures { λ r. ⌜ (r ≡ count) × (r < 4294967296) ⌝ }
 {
     count as usize
+}
+
+// Fills a hit table: the sum at each capacity from 1 to `k`, into the first `k` entries.
+pub fn fill(depths: &[u32; DEPTHS], k: usize, hits: &mut [u32])
+    ensures { λ _. ⌜ now (hits .exit) ≡ filled (now (depths .entry)) k (now (hits .entry)) ⌝ }
+{
+    let last = in_use(in_use(k, hits.len()), CAPACITIES);
+    let mut c = 0;
+    while c < last {
+        hits[c] = (sum(depths, c + 1) % 4294967296) as u32;
+        c += 1;
+    }
 }

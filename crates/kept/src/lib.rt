@@ -1,9 +1,10 @@
 // How code keeps a list and its counts, as numbers in lent memory: an entry from a rank and a page, the pages of a list of
-// entries, and the sum of depths. The laws in specs/ tie what is kept to the definitions of `theory`.
+// entries, and the sums of depths. The laws in specs/ tie what is kept to the definitions of `theory`.
 mod depths;
 mod shown;
 
 pub use depths::DEPTHS;
+pub use depths::fill;
 pub use depths::sum;
 pub use shown::show;
 ghost use Rattle.kept.specs.Entries.{entry as «entry-of»};

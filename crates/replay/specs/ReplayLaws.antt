@@ -6,42 +6,41 @@ use mathlib.Core.Bool.{true, false}
 use mathlib.Core.Path.{_≡_, refl, sym, _∙_, ap, subst₂}
 use mathlib.Core.List.{List, [], _∷_, reverse}
 use lib.Dec.{leb}
-use lib.ListN.{length, drop, getD, set, length-reverse}
+use lib.ListN.{length, drop, getD, length-reverse}
 use lib.Seq.{take-length}
 use borrow.Author.Tests.{le-leb, lt-leb, le-ltb, lt-ltb, leb-true, leb-false}
 use Rattle.rules.specs.Limits.{capacities, references, pages, policies, opt, isCapacity}
 use Rattle.rules.specs.Refusals.{refusal, refuseIf, badPolicy, tooManyReferences, shortTable, badPage}
 use Rattle.rules.specs.Cases.{by-cases, clash}
 use Rattle.rules.specs.AnswerLaws.{accepted-twice, not-accepted}
-use Rattle.rules.specs.TableLaws.{values-next}
 use Rattle.rules.specs.FirstBad.{firstBad, first-bad-at, first-bad-next, first-bad-end, first-bad-most}
 use Rattle.rules.specs.declared.Refusal.{Refusal}
 use Rattle.rules.specs.declared.Answer.{Answer}
 use Rattle.rules.specs.declared.Answer.the-variants.{Accepted, Refused}
 use Rattle.theory.specs.Policy.{policyOf}
-use Rattle.theory.specs.Plain.{hitsAt}
-use Rattle.theory.specs.Theorem.{hits-and-misses}
 use Rattle.kept.specs.Below.{Below}
+use Rattle.kept.specs.Tally.{tally}
+use Rattle.kept.specs.Filled.{filled}
+use Rattle.kept.specs.Memory.{depthsAfter}
 use Rattle.count.specs.Count.{Counted, withinLimits, countAnswer, countTable}
 use Rattle.count.specs.Checks.{limitsNumber}
 use Rattle.count.specs.Runs.{before}
 use Rattle.count.specs.RunLaws.{before-next, before-below, before-length}
+use Rattle.count.specs.Table.{filled-hits}
 use Rattle.count.specs.CountLaws.{count-limits, count-short, count-bad, count-filled, all-pages}
 use Rattle.session.specs.declared.Session.{Session}
 use Rattle.session.specs.declared.Started.{Started}
 use Rattle.session.specs.declared.Started.the-variants as started
 use Rattle.session.specs.declared.Referenced.{Referenced}
-use Rattle.session.specs.declared.Asked.{Asked}
-use Rattle.session.specs.History.{startAnswer, acceptedOf, depthOf, hitsNow}
+use Rattle.session.specs.History.{startAnswer, acceptedOf, depthOf}
 use Rattle.session.specs.Lent.{lentOf}
-use Rattle.session.specs.Memory.{Value, Depths, Gives}
+use Rattle.session.specs.Memory.{Gives}
 use Rattle.session.specs.Answers.{Starting, Referring, depthAs}
-use Rattle.session.specs.Reads.{HitsRead}
-use Rattle.session.specs.ReferLaws.{start-bounds, accepted-all, accepted-few}
+use Rattle.session.specs.ReferLaws.{start-bounds, accepted-all}
 use Rattle.session.specs.Driving.{begun, not-begun, begun-gives}
 use Rattle.replay.specs.declared.Progress.{Progress}
 use Rattle.replay.specs.Replayed.{Replayed, replayAnswer, replayTable}
-use Rattle.replay.specs.Steps.{refusedIn, numberIn, OnlyStarted, Referable, Followed, Readable, HitsFilled}
+use Rattle.replay.specs.Steps.{refusedIn, OnlyStarted, Referable, Followed}
 
 -- i references were accepted, and the first bad page is still to come
 pub record Along (s : Session) (trace : List ℕ) (i : ℕ) (now : Session) (places depths counts : List ℕ) : Type 0 where
@@ -103,31 +102,6 @@ along-end {s} {trace = trace} {i = i} a end =
       gives = λ e. rw (all, take-length trace) at (a .gives);
     }
 
--- what is read at a capacity that the session has is the hits of the plain cache
-module _ {s : Session} {depths : List ℕ} {c : ℕ} {asked : Asked} (inside : c < s .k)
-    (read : HitsRead s depths (c + 1) asked) where
-  number-is : (policy k : ℕ) (calls : List ℕ) → Value policy k calls s → Depths policy k calls depths
-      → numberIn asked ≡ hitsNow policy (c + 1) calls
-  number-is policy k calls v d =
-      ap numberIn (read .hits-are policy k calls v d)
-      ∙ rw (le-leb 1 (c + 1) (omega arith), le-leb (c + 1) k (omega (arith, v .k-is)))
-
-  pub number-fits : {number : ℕ} {hits : List ℕ} → number ≡ numberIn asked → Readable s depths hits → number ≤ references
-  number-fits told a =
-      omega (
-        arith,
-        number-is (a .policy) (a .k) (a .calls) (a .value) (a .tallied),
-        hits-and-misses (policyOf (a .policy)) (c + 1) (acceptedOf (a .calls)) [],
-        accepted-few (a .calls),
-      )
-
-  pub hits-next : (before : List ℕ) {hits : List ℕ} {number : ℕ} → number ≡ numberIn asked → c < length before
-      → HitsFilled s depths c before hits → HitsFilled s depths (c + 1) before (set hits c number)
-  hits-next before {hits} told room filled =
-      λ policy k calls v d.
-      rw (told, number-is policy k calls v d)
-      (values-next (λ n. hitsNow policy n calls) hits before c room (filled policy k calls v d))
-
 -- the refusals 5, 1 and 2 of a trace whose session was started
 limits-many : (policy k n : ℕ) → startAnswer policy k ≡ Accepted → references < n → limitsNumber policy k n ≡ tooManyReferences
 limits-many policy k n e many =
@@ -164,30 +138,21 @@ module _ {s : Session} {places depths counts : List ℕ} (only-started : OnlySta
         whole : Gives (s .policy) (s .k) (reverse trace) (r .session) places′ depths′ counts′
         whole = followed .gives (omega (arith, followed .accepted-is, first-bad-most 0 trace))
 
-        pub drive-readable : Readable (r .session) depths′ table
-        drive-readable =
-            let g = whole in
-            record {
-              policy = s .policy;
-              k = s .k;
-              calls = reverse trace;
-              value = g .value;
-              tallied = g .tallied;
-              room = omega (arith, g .value .k-is);
-            }
-
-        pub drive-done : {after : List ℕ} → HitsFilled (r .session) depths′ (r .session .k) table after
+        -- the trace is the history, so the depths are those of its run
+        pub drive-done : {after : List ℕ} → after ≡ filled depths′ (s .k) table
             → Counted trace (s .policy) (s .k) table after Accepted
-        unfolding hitsAt
-        drive-done filled =
-            let g = whole in
+        unfolding depthsAfter
+        drive-done filled-up =
+            let bounds = start-bounds (s .policy) (s .k) (only-started .value .started) in
             let only-pages : Below pages trace = all-pages 0 trace (omega (arith, followed .accepted-is)) in
             let good : Below pages (reverse trace) =
             rw (take-length trace) at (before-below pages trace (length trace) only-pages) in
             let accepted : acceptedOf (reverse trace) ≡ reverse trace =
             accepted-all (reverse trace) good (omega (arith, length-reverse trace)) in
+            let depths-are : depths′ ≡ tally (policyOf (s .policy)) (s .k) (reverse trace) [] =
+            rw accepted at (whole .tallied .depths-are) in
             count-filled trace (s .policy) (s .k) 0 table passed refl room (r .accepted) (followed .accepted-is) all
-            (rw (g .value .k-is, accepted) at (filled (s .policy) (s .k) (reverse trace) (g .value) (g .tallied)))
+            (filled-up ∙ rw depths-are (filled-hits (s .policy) (s .k) (bounds .low) (bounds .high) trace table few room))
 
 -- 5 and 1 of a start that was refused are those of the replay
 refused-start : (policy k n : ℕ) (rest : Answer) {x : Refusal} → startAnswer policy k ≡ Refused x

@@ -1,10 +1,10 @@
-// How another crate uses `session`: a trace is replayed through one, reference by reference, and the hits are read off it.
-// The session and its tables are local; the trace is their history, and session's promises say what its answers are for a
-// history. The answer is that of `count` for the same trace.
+// How another crate uses `session`: a trace is replayed through one, reference by reference, and the hits at all capacities
+// are summed up from the depths that came. The session and its tables are local; the trace is their history, and session's
+// promises say what its answers and its tables are for a history. The answer is that of `count` for the same trace.
 ghost use mathlib.Core.Path.{_≡_};
 ghost use Rattle.count.specs.Count.{Counted};
 ghost use Rattle.replay.specs.Replayed.{Replayed};
-ghost use Rattle.replay.specs.Steps.{OnlyStarted, Referable, Followed, Readable, HitsFilled, refusedIn, numberIn};
+ghost use Rattle.replay.specs.Steps.{OnlyStarted, Referable, Followed, refusedIn};
 use kept::DEPTHS;
 use rules::Answer;
 use rules::BAD_PAGE;
@@ -14,7 +14,6 @@ use rules::Page;
 use rules::REFERENCES;
 use rules::SHORT_TABLE;
 use rules::TOO_MANY_REFERENCES;
-use session::Asked;
 use session::Depth;
 use session::Session;
 use session::Started;
@@ -62,7 +61,7 @@ fn drive(
     if accepted < trace.len() {
         return rules::refuse(BAD_PAGE, accepted);
     }
-    read_hits(run.session, depths, hits);
+    kept::fill(depths, s.k, hits);
     Answer::Accepted
 }
 
@@ -105,28 +104,5 @@ fn refer_all(
     Progress {
         session,
         accepted: i,
-    }
-}
-
-// The number that was asked for.
-fn number(asked: Asked) -> usize
-    ensures { λ r. ⌜ r ≡ numberIn asked ⌝ }
-{
-    match asked {
-        Asked::Number(n) => n,
-        Asked::Refused(r) => 0,
-    }
-}
-
-// The hits at each capacity, read off the session.
-fn read_hits(s: Session, depths: &[u32; DEPTHS], hits: &mut [u32])
-    requires { ⌜ Readable s (now depths) (now hits) ⌝ }
-    ensures { λ _. ⌜ HitsFilled s (now (depths .entry)) (s .k) (now (hits .entry)) (now (hits .exit)) ⌝ }
-{
-    let mut c = 0;
-    while c < s.k {
-        let asked = session::hits(s, depths, c + 1);
-        hits[c] = number(asked) as u32;
-        c += 1;
     }
 }

@@ -1,6 +1,6 @@
 -- A law for each return: what was checked on the way decides the answer and the table.
 use borrow.Author.Needs.{needs}
-use Rattle.count.specs.CountLaws.{count-limits, count-short, count-bad, count-fit, count-fillable, count-done}
+use Rattle.count.specs.CountLaws.{count-limits, count-short, count-bad, count-fit, count-done}
 use Rattle.count.proofs.count.Statement.{statement}
 use Rattle.count.proofs.count.Tie as tie
 
@@ -47,15 +47,7 @@ run-policy-requires c κs =
     (roomy .if2 .left) _ (searched .first-bad .ensures) (c .if3 .left)
 
 fill-requires : tie.Need-fill-requires
-fill-requires c κs =
-    let ran = c .before .before .before in
-    let good = ran .before in
-    let searched = good .before in
-    let roomy = searched .before in
-    let limited = roomy .before in
-    let asked = limited .before .before .before .before in
-    count-fillable _ (asked .args .policy) _ _ _ (limited .before .limits .ensures) (limited .if1 .left) (roomy .if2 .left) _
-    (searched .first-bad .ensures) (good .if3 .left) (ran .run-policy .ensures)
+fill-requires c κs = search needs
 
 same-length : tie.Need-same-length
 same-length c = search needs

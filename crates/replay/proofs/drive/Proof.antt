@@ -1,7 +1,7 @@
 -- A law for each return.
 use native.Mathlib.Omega.{arith}
 use borrow.Author.Needs.{needs}
-use Rattle.replay.specs.ReplayLaws.{drive-many, drive-short, drive-bad, drive-readable, drive-done}
+use Rattle.replay.specs.ReplayLaws.{drive-many, drive-short, drive-bad, drive-done}
 use Rattle.replay.proofs.drive.Statement.{statement}
 use Rattle.replay.proofs.drive.Tie as tie
 
@@ -37,13 +37,8 @@ returns-3 c =
     (drive-bad (asked .pre) (asked .args .trace .now) (asked .args .hits .now) (omega arith) (omega arith)
     (followed .refer-all .ensures) (omega arith))
 
-read-hits-requires : tie.Need-read-hits-requires
-read-hits-requires c κs =
-    let followed = c .before .before .before in
-    let checked = followed .before .before .before in
-    let asked = checked .before .before .before .before .before .before in
-    drive-readable (asked .pre) (asked .args .trace .now) (asked .args .hits .now) (omega arith) (omega arith)
-    (followed .refer-all .ensures) (omega arith)
+fill-requires : tie.Need-fill-requires
+fill-requires c κs = search needs
 
 same-length : tie.Need-same-length
 same-length c = search needs
@@ -55,7 +50,7 @@ returns-4 c =
     let checked = followed .before .before .before in
     let asked = checked .before .before .before .before .before .before in
     drive-done (asked .pre) (asked .args .trace .now) (asked .args .hits .now) (omega arith) (omega arith)
-    (followed .refer-all .ensures) (omega arith) (filled .read-hits .ensures)
+    (followed .refer-all .ensures) (omega arith) (filled .fill .ensures)
 
 pub drive-spec : {M : Type 1} → statement M
 drive-spec =
@@ -68,6 +63,6 @@ drive-spec =
     refer-all-requires
     refuse-requires-3
     returns-3
-    read-hits-requires
+    fill-requires
     same-length
     returns-4)

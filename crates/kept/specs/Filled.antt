@@ -1,0 +1,46 @@
+-- The hit table (rule A4): entry C-1 is the sum of the depths 1 to C.
+use Prim.Native.Nat.{ℕ, _+_, _%_, _≤_, _<_, min}
+use native.Mathlib.Omega.{arith}
+use mathlib.Core.Path.{_≡_, refl, ap}
+use mathlib.Core.List.{List, _++_}
+use lib.ListN.{length, drop, set}
+use Rattle.rules.specs.Limits.{capacities}
+use Rattle.rules.specs.Lists.{valuesFrom}
+use Rattle.rules.specs.TableLaws.{values-next, values-same}
+use Rattle.kept.specs.Tally.{upTo, upTo-grows}
+
+-- a number as an entry of 32 bits holds it: no count of a run has more
+abbrev pub held : ℕ → ℕ
+held n = n % 4294967296
+
+-- the sums at the capacities 1 to n in front, and behind them what stood there
+unfoldable pub sums : List ℕ → ℕ → List ℕ → List ℕ
+sums depths n table = valuesFrom (λ c. held (upTo depths c)) 1 n ++ drop n table
+
+-- at as many capacities as are asked for, as far as the table has entries and there are depths
+unfoldable pub filled : List ℕ → ℕ → List ℕ → List ℕ
+filled depths k table = sums depths (min (min k (length table)) capacities) table
+
+pub sums-start : (depths table : List ℕ) → table ≡ sums depths 0 table
+unfolding sums valuesFrom
+sums-start depths table = refl
+
+pub sums-next : (depths before table : List ℕ) (c : ℕ) → c < length before → table ≡ sums depths c before
+    → set table c (held (upTo depths (c + 1))) ≡ sums depths (c + 1) before
+unfolding sums
+sums-next depths before table c room e = values-next (λ d. held (upTo depths d)) table before c room e
+
+pub sums-end : (depths before table : List ℕ) (k c : ℕ) → c ≡ min (min k (length before)) capacities
+    → table ≡ sums depths c before → table ≡ filled depths k before
+unfolding filled
+sums-end depths before table k c end e = rw (← end) e
+
+-- where the table has an entry for each capacity and no entry is too small for its sum, the entries are the sums
+pub filled-sums : (depths table : List ℕ) (k : ℕ) → k ≤ capacities → k ≤ length table → upTo depths k < 4294967296
+    → filled depths k table ≡ valuesFrom (upTo depths) 1 k ++ drop k table
+unfolding filled sums
+filled-sums depths table k high room small =
+    let all : min (min k (length table)) capacities ≡ k = omega arith in
+    rw all (ap (λ (l : List ℕ). l ++ drop k table)
+    (values-same (λ c. held (upTo depths c)) (upTo depths) 1 k
+    (λ c low most. omega (arith, upTo-grows depths c k (omega arith)))))
