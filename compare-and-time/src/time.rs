@@ -96,7 +96,7 @@ pub fn whole_traces<A: Counts, B: Counts>() -> Vec<Line> {
 pub fn tables<A: Counts, B: Counts>() -> Vec<Line> {
     let mut a = || empty_traces::<A>(LIMIT) - empty_traces::<A>(1);
     let mut b = || empty_traces::<B>(LIMIT) - empty_traces::<B>(1);
-    vec![race_timed(format!("filling a hit table of {LIMIT}"), 2.0, TABLES, &mut a, &mut b)]
+    vec![race_timed(format!("filling a hit table of {LIMIT}"), 1.2, TABLES, &mut a, &mut b)]
 }
 
 const TABLES: usize = 500;
