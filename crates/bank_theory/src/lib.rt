@@ -1,5 +1,6 @@
 // Banks of frames (rules B1 to B6): the states of a bank, and the kind of call that gates its power. The definitions and the
 // theory of call histories stand in specs/; the calls are in `banks`.
+#![tactic(auto)]
 
 // The states of a bank (rule B1).
 pub const OFF: u8 = 0;
@@ -9,7 +10,7 @@ pub const OPEN: u8 = 1;
 pub const CLOSING: u8 = 2;
 
 // What a call does to the power of a bank (rule B2).
-#[derive(Drop)]
+#[derive(Clone, Copy)]
 pub enum Gating {
     Close,
     Cut,

@@ -3,6 +3,8 @@
 // promise alone: it calls `row`, and reads states and gates. The only premise is that row and gates are such as fresh banks
 // and calls give (`StandsUnder`), and each call leaves such ones. What the calls mean, and what any sequence of them gives,
 // stands in `bank_theory`.
+#![tactic(auto)]
+
 mod gating;
 mod testing;
 

@@ -3,6 +3,8 @@
 // fails its test (rules X1 to X4). Past that nothing is decided here: each function hands on to a proved one and tells its
 // answer in numbers, and its promise says so. A result is one number of 32 bits, since wider ones are handed back in other
 // ways on other machines; what else there is to say stands in a lent `value`.
+#![tactic(auto)]
+
 ghost use Rattle.std.specs.Prelude.{◌≡◌};
 ghost use Rattle.rules.specs.Refusals.{unsound as unsound_number};
 ghost use Rattle.rules.specs.Told.{told, told_of};

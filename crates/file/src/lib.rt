@@ -2,6 +2,8 @@
 // `read_references` for the part that starts at the reference section; their contracts cite `trace_in` and
 // `references_in` (crate file_theory). Nothing is written before all is checked, so a refusal leaves the lent
 // tables alone.
+#![tactic(auto)]
+
 mod scan;
 
 ghost use Rattle.rules.specs.Limits.{capacities as capacity_limit, references as reference_limit};

@@ -1,5 +1,7 @@
 // How code keeps a list and its counts, as numbers in lent memory: an entry from a rank and a page, the pages of a list of
 // entries, and the sums of depths. The laws in specs/ tie what is kept to the definitions of `theory`.
+#![tactic(auto)]
+
 mod depths;
 mod shown;
 

@@ -1,6 +1,8 @@
 // How another crate uses `session`: a trace is replayed through one, reference by reference, and the hits at all capacities
 // are summed up from the depths that came. The session and its tables are local; the trace is their history, and session's
 // promises say what its answers and its tables are for a history. The answer is that of `count` for the same trace.
+#![tactic(auto)]
+
 ghost use Rattle.std.specs.Prelude.{◌≡◌};
 ghost use Rattle.count.specs.Count.{Counted};
 ghost use Rattle.replay.specs.Replayed.{Replayed};
@@ -13,7 +15,7 @@ use rules::{
 use session::{Depth, Session, Started};
 
 // The session after the references that it accepted, and how many those were.
-#[derive(Drop)]
+#[derive(Clone, Copy)]
 pub struct Progress {
     pub session: Session,
     pub accepted: usize,

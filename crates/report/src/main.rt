@@ -1,5 +1,7 @@
 // Prints the report of the trace file on standard input: reads, calls, writes. All that matters is proved in
 // crate report_text, also how much of a longer input has to be read.
+#![tactic(auto)]
+
 use libc::{STDIN_FILENO, STDOUT_FILENO};
 
 fn main() {

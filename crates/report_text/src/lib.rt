@@ -1,6 +1,8 @@
 // The report's bytes (rules T1 and T2), written into a lent buffer. A client gets `report`, for any bytes at
 // all, and `report_input`, for a program that stops reading when its buffer is full (rule F5); their contracts
 // cite `report` of crate report_theory, a definition of the file's bytes.
+#![tactic(auto)]
+
 mod write;
 
 ghost use Rattle.std.specs.Prelude.{◌++◌, ◌+◌, ◌≤◌, length};

@@ -3,6 +3,8 @@
 // mark and the number held. The only premise is that the row is one that a fresh row and calls give (`Stands`), and each call
 // leaves one. What the calls mean, and what any sequence of them gives, stands in `row_theory`: a layer above needs its
 // specs/Promise.antt alone.
+#![tactic(auto)]
+
 mod slots;
 mod table;
 mod testing;

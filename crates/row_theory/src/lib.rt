@@ -1,5 +1,7 @@
 // The frame row (rules W1 to W7; Hoogerwoord 1992, section 1, with N = 64 and M = 32): the kinds of value that its calls take
 // and answer. The definitions and the theory of call histories stand in specs/; the calls are in `row`.
+#![tactic(auto)]
+
 use rules::{FRAMES, Frame, Refusal, SLOTS};
 
 // A number for each slot, and a number for each frame (rules L4, L6).
@@ -15,7 +17,7 @@ pub const IDLE: u8 = 1;
 pub const BUSY: u8 = 2;
 
 // What a call does to a frame: a column of the state table (rule W6).
-#[derive(Drop)]
+#[derive(Clone, Copy)]
 pub enum Event {
     Put,
     Touch,
@@ -25,14 +27,14 @@ pub enum Event {
 }
 
 // What a frame call answers: the slots examined by squeezing (rule W5), or the refusal, which examines none.
-#[derive(Drop)]
+#[derive(Clone, Copy)]
 pub enum Reply {
     Done(u8),
     Refused(Refusal),
 }
 
 // What asking for a victim answers (rule W7).
-#[derive(Drop)]
+#[derive(Clone, Copy)]
 pub enum Victim {
     Given(Frame),
     Refused(Refusal),

@@ -1,17 +1,19 @@
 // What every other crate shares: the limits, the refusal numbers, and the kinds of number that must not
 // be mixed. The definitions beside them (specs/Limits.antt, specs/Refusals.antt) name the same numbers for
 // promises: code that uses one and a promise that cites the other are proved only while both agree.
+#![tactic(auto)]
+
 ghost use Rattle.std.specs.Prelude.{min, ◌≡◌, cond, ◌&&◌};
 ghost use Rattle.rules.specs.Refusals.{refusal};
 
 // A page number, a frame number and a bank number are different kinds of number (rule N1).
-#[derive(Drop)]
+#[derive(Clone, Copy)]
 pub struct Page(pub u16);
 
-#[derive(Drop)]
+#[derive(Clone, Copy)]
 pub struct Frame(pub u8);
 
-#[derive(Drop)]
+#[derive(Clone, Copy)]
 pub struct Bank(pub u8);
 
 // Limits (rules L1 to L8); each is a number of things, so the largest page number is one less than PAGES.
@@ -91,14 +93,14 @@ pub const BANK_NOT_OPEN: u8 = 33;
 pub const UNSOUND: u8 = 40;
 
 // A refusal has a number and a place (rule A1).
-#[derive(Drop)]
+#[derive(Clone, Copy)]
 pub struct Refusal {
     pub number: u8,
     pub place: usize,
 }
 
 // What a call answers that gives back nothing but lent memory.
-#[derive(Drop)]
+#[derive(Clone, Copy)]
 pub enum Answer {
     Accepted,
     Refused(Refusal),

@@ -44,7 +44,7 @@ fn keep_count(counts: &mut [u16; PAGES as usize], page: u16, count: u16)
 }
 
 // The rank of the referenced page: now, and from this reference on.
-#[derive(Drop)]
+#[derive(Clone, Copy)]
 struct Ranks {
     now: u16,
     then: u16,

@@ -1,6 +1,8 @@
 // A session: one reference at a time, under LRU or LFU, readable at any moment. Its state is a small value beside three
 // tables that the caller lends, so that a reference copies no table; what they hold together is a function of the session's
 // history (specs/Memory.antt). No call asks anything of them: it says what it makes of any memory (specs/AnyMemory.antt).
+#![tactic(auto)]
+
 ghost use Rattle.std.specs.Prelude.{◌≡◌};
 ghost use Rattle.session.specs.Answers.{Starting, Referring, refused_with};
 ghost use Rattle.session.specs.Lent.{lent_of};
@@ -19,7 +21,7 @@ pub use soundness::sound;
 pub use tests::{adds_up, countable, fits};
 
 // The part of a session that is passed by value.
-#[derive(Drop)]
+#[derive(Clone, Copy)]
 pub struct Session {
     pub policy: u8,
     pub k: usize,
@@ -27,20 +29,20 @@ pub struct Session {
     pub references: usize,
 }
 
-#[derive(Drop)]
+#[derive(Clone, Copy)]
 pub enum Started {
     Begun(Session),
     Refused(Refusal),
 }
 
 // The depth of an accepted reference, or 0 if the page was not in the list.
-#[derive(Drop)]
+#[derive(Clone, Copy)]
 pub enum Depth {
     Accepted(usize),
     Refused(Refusal),
 }
 
-#[derive(Drop)]
+#[derive(Clone, Copy)]
 pub struct Referenced {
     pub depth: Depth,
     pub session: Session,
@@ -54,7 +56,7 @@ pub struct Listing {
 }
 
 // A number that was asked for.
-#[derive(Drop)]
+#[derive(Clone, Copy)]
 pub enum Asked {
     Number(usize),
     Refused(Refusal),

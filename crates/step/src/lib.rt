@@ -1,6 +1,8 @@
 // One reference to a list that is kept as entries, in memory that the caller lends: the list step of every counting crate.
 // `shift` is the step under LRU, where what is carried always stays at the next place; `place` is the step under LFU and OPT,
 // where the larger of two entries stays. Both take any memory, any number of places in use, any limit and any entries.
+#![tactic(auto)]
+
 mod shifting;
 
 ghost use Rattle.step.specs.Stepped.{AtPlace, Carrying, Placed, Settled, Stepped};
@@ -12,21 +14,21 @@ use kept::in_use;
 use shifting::{find, shift_down};
 
 // What a reference answers: the depth at which the old entry stood, or 0; and the places in use after it.
-#[derive(Drop)]
+#[derive(Clone, Copy)]
 pub struct Step {
     pub depth: usize,
     pub length: usize,
 }
 
 // The depth at which the old entry stood, or 0; and the entry that is left over at the end, or 0 where none is.
-#[derive(Drop)]
+#[derive(Clone, Copy)]
 struct Carried {
     depth: usize,
     last: u32,
 }
 
 // What the walk found at a place, and what is carried on from there.
-#[derive(Drop)]
+#[derive(Clone, Copy)]
 struct Walked {
     found: bool,
     carried: u32,
