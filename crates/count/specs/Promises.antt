@@ -16,8 +16,8 @@ use Rattle.rules.specs.TableLaws.{values_length, values_at}
 use Rattle.theory.specs.Policy.{policy_of}
 use Rattle.theory.specs.Plain.{hits_at, hits_up_to, cache_after}
 use Rattle.theory.specs.OnePass.{list_of, list_after}
-use Rattle.theory.specs.Order.{policy_order}
-use Rattle.theory.specs.Theorem.{list_is_cache, at_most}
+use Rattle.theory.proofs.Order.{policy_order}
+use Rattle.theory.proofs.Theorem.{list_is_cache, at_most}
 use Rattle.count.specs.Count.{Counted, count_answer, count_table, list_answer, list_shown}
 use Rattle.kept.specs.Shown.{pages_shown, shown_back, zero_past}
 use Rattle.count.specs.Listing.{Showing}

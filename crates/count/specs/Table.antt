@@ -9,8 +9,8 @@ use Rattle.rules.specs.Lists.{values_from}
 use Rattle.rules.specs.TableLaws.{values_same}
 use Rattle.theory.specs.Policy.{policy_of}
 use Rattle.theory.specs.Plain.{hits_at, hits_up_to}
-use Rattle.theory.specs.Order.{policy_order}
-use Rattle.theory.specs.Theorem.{hits_by_depth, hits_and_misses}
+use Rattle.theory.proofs.Order.{policy_order}
+use Rattle.theory.proofs.Theorem.{hits_by_depth, hits_and_misses}
 use Rattle.kept.specs.Tally.{tally, up_to, tally_hits}
 use Rattle.kept.specs.Filled.{filled, filled_sums}
 

@@ -10,7 +10,7 @@ use Rattle.theory.specs.Priority.{Priority, Policy, higher, lower}
 use Rattle.theory.specs.Policy.{by_more, smaller}
 use Rattle.theory.specs.OnePass.{carry, place}
 use Rattle.kept.specs.Entries.{entry, page_of, larger, place_entry}
-use Rattle.theory.specs.Bags.{holds_times}
+use Rattle.theory.proofs.Bags.{holds_times}
 use Rattle.kept.specs.Below.{Below}
 use Rattle.rules.specs.Cases.{by_cases, clash}
 

@@ -9,7 +9,7 @@ use Rattle.kept.specs.Entries.{entry, place_entry}
 use Rattle.kept.specs.Rankings.{Ranking}
 use Rattle.kept.specs.EntryLaws.{through, place_entries, entry_same}
 use Rattle.kept.specs.Below.{Below, list_below}
-use Rattle.theory.specs.Theorem.{Orders, no_page_twice, at_most}
+use Rattle.theory.proofs.Theorem.{Orders, no_page_twice, at_most}
 use Rattle.rules.specs.Cases.{by_cases}
 
 unfoldable pub kept : Ranking → Policy → ℕ → List ℕ → List ℕ → List ℕ

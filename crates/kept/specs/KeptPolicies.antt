@@ -7,7 +7,7 @@ use Rattle.rules.specs.Lists.{times}
 use Rattle.theory.specs.Priority.{Priority}
 use Rattle.theory.specs.Policy.{by_more, smaller, nearness, lru, lfu, opt, policy_of}
 use Rattle.theory.specs.OnePass.{place, list_after}
-use Rattle.theory.specs.Order.{lru_order, lfu_order, opt_order}
+use Rattle.theory.proofs.Order.{lru_order, lfu_order, opt_order}
 use Rattle.kept.specs.Entries.{larger, always}
 use Rattle.kept.specs.EntryLaws.{through, entry_above, carry_same}
 use Rattle.kept.specs.Below.{Below, list_below}

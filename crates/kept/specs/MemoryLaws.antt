@@ -8,8 +8,8 @@ use Rattle.rules.specs.Limits.{capacities, pages, lru, lfu, opt}
 use Rattle.rules.specs.Cases.{by_cases}
 use Rattle.theory.specs.Policy.{policy_of}
 use Rattle.theory.specs.OnePass.{list_after}
-use Rattle.theory.specs.Order.{policy_order}
-use Rattle.theory.specs.Theorem.{at_most}
+use Rattle.theory.proofs.Order.{policy_order}
+use Rattle.theory.proofs.Theorem.{at_most}
 use Rattle.kept.specs.Below.{Below}
 use Rattle.kept.specs.Entries.{entry}
 use Rattle.kept.specs.Rankings.{Ranking, unranked, frequency, sooner, ranking_of}

@@ -6,7 +6,7 @@ use mathlib.Core.List.{List, [], ◌∷◌}
 use borrow.Author.Tests.{eqb-true, eqb-false, eq-eqb, ne_eqb, lt-ltb}
 use Rattle.theory.specs.Priority.{Priority, higher, lower}
 use Rattle.theory.specs.Policy.{by_more, smaller, nearness, lru}
-use Rattle.theory.specs.PolicyWords.{nearness_most}
+use Rattle.theory.proofs.PolicyWords.{nearness_most}
 use Rattle.theory.specs.OnePass.{carry, place, step, list_after}
 use Rattle.rules.specs.Cases.{by_cases}
 

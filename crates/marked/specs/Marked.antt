@@ -2,7 +2,7 @@
 -- rules say. Where it fails, the theorem of the case alone says which (`p1_holds` to `p15_holds`).
 use Rattle.std.specs.Prelude.{◌≡◌, refl, List, [], ◌∷◌, map}
 use Rattle.rules.specs.Case.{Case, gotten, wished}
-use Rattle.theory.specs.MarkedCounts.{counted, p1, p2, p3, p4, p5, p6}
+use Rattle.theory.proofs.MarkedCounts.{counted, p1, p2, p3, p4, p5, p6}
 use Rattle.count.specs.MarkedAnswers.{refused_as, p7, p8}
 use Rattle.row_theory.specs.Runs.{answers_of, victim_after_calls}
 use Rattle.bank_theory.specs.BankRuns.{replies_of, victim_after_steps}

@@ -10,9 +10,9 @@ use Rattle.rules.specs.Limits.{capacities, references, pages}
 use Rattle.rules.specs.declared.Page.{Page}
 use Rattle.theory.specs.Policy.{policy_of}
 use Rattle.theory.specs.OnePass.{list_after, depth}
-use Rattle.theory.specs.Depth.{depth_most}
-use Rattle.theory.specs.Order.{policy_order}
-use Rattle.theory.specs.Theorem.{at_most}
+use Rattle.theory.proofs.Depth.{depth_most}
+use Rattle.theory.proofs.Order.{policy_order}
+use Rattle.theory.proofs.Theorem.{at_most}
 use Rattle.kept.specs.Below.{Below, below_mono, list_below}
 use Rattle.kept.specs.Entries.{entry, page_of}
 use Rattle.kept.specs.EntryLaws.{pages_of_law}

@@ -4,7 +4,7 @@ use Rattle.std.proofs.Common.{arith, ◌∙◌, ap, length-take}
 use borrow.Author.Tests.{eqb-true, eqb-false, eq-eqb, lt-ltb}
 use Rattle.rules.specs.Limits.{capacities, references, pages}
 use Rattle.rules.specs.Cases.{by_cases}
-use Rattle.theory.specs.Depth.{depth_most}
+use Rattle.theory.proofs.Depth.{depth_most}
 use Rattle.kept.specs.Entries.{entry}
 use Rattle.kept.specs.Tally.{bump, up_to}
 use Rattle.run.specs.Referred.{rank_before, largest_count, depths_then}

@@ -9,8 +9,8 @@ use Rattle.rules.specs.declared.Answer.TheVariants.{Accepted, Refused}
 use Rattle.theory.specs.Policy.{policy_of}
 use Rattle.theory.specs.Plain.{cache_after, hits_at}
 use Rattle.theory.specs.OnePass.{within}
-use Rattle.theory.specs.Order.{policy_order}
-use Rattle.theory.specs.Theorem.{list_is_cache, hit_by_depth, hits_and_misses, at_most}
+use Rattle.theory.proofs.Order.{policy_order}
+use Rattle.theory.proofs.Theorem.{list_is_cache, hit_by_depth, hits_and_misses, at_most}
 use Rattle.kept.specs.Shown.{places_of, pages_shown, shown_back, zero_past}
 use Rattle.session.specs.declared.Session.{Session}
 use Rattle.session.specs.declared.Depth.TheVariants as answers

@@ -11,8 +11,8 @@ use Rattle.rules.specs.Refusals.{bad_capacity}
 use Rattle.rules.specs.Cases.{by_cases}
 use Rattle.rules.specs.declared.Page.{Page}
 use Rattle.theory.specs.Policy.{policy_of}
-use Rattle.theory.specs.Order.{policy_order}
-use Rattle.theory.specs.Theorem.{hits_by_depth, hits_and_misses}
+use Rattle.theory.proofs.Order.{policy_order}
+use Rattle.theory.proofs.Theorem.{hits_by_depth, hits_and_misses}
 use Rattle.kept.specs.Tally.{up_to, tally_hits}
 use Rattle.kept.specs.Memory.{length_after, depths_after}
 use Rattle.kept.specs.Shown.{shown_places}

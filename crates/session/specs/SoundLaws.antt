@@ -16,8 +16,8 @@ use Rattle.rules.specs.Cases.{by_cases, clash}
 use Rattle.rules.specs.AllBelow.{all_below, all_make}
 use Rattle.theory.specs.Policy.{policy_of}
 use Rattle.theory.specs.OnePass.{list_after}
-use Rattle.theory.specs.Order.{policy_order}
-use Rattle.theory.specs.Theorem.{no_page_twice, at_most}
+use Rattle.theory.proofs.Order.{policy_order}
+use Rattle.theory.proofs.Theorem.{no_page_twice, at_most}
 use Rattle.kept.specs.Below.{Below, list_below}
 use Rattle.kept.specs.Entries.{entry, page_of}
 use Rattle.kept.specs.Rankings.{unranked, frequency, ranking_of}

@@ -7,8 +7,8 @@ use borrow.Author.Tests.{le-leb, lt-ltb, leb-true, leb-false, ltb-true, eq-eqb}
 use Rattle.rules.specs.Limits.{capacities, references, pages, opt}
 use Rattle.rules.specs.Cases.{by_cases, clash}
 use Rattle.theory.specs.Policy.{policy_of}
-use Rattle.theory.specs.Order.{policy_order}
-use Rattle.theory.specs.Theorem.{at_most}
+use Rattle.theory.proofs.Order.{policy_order}
+use Rattle.theory.proofs.Theorem.{at_most}
 use Rattle.kept.specs.Memory.{depths_after}
 use Rattle.run.specs.ReferredAll.{RunMemory, list_then, memory_then}
 use Rattle.step.specs.Stepped.{next}

@@ -8,8 +8,8 @@ use Rattle.rules.specs.Lists.{one}
 use Rattle.rules.specs.Cases.{by_cases}
 use Rattle.theory.specs.Priority.{Policy}
 use Rattle.theory.specs.OnePass.{list_after, depth}
-use Rattle.theory.specs.Depth.{depth_most}
-use Rattle.theory.specs.Theorem.{Orders, at_most}
+use Rattle.theory.proofs.Depth.{depth_most}
+use Rattle.theory.proofs.Theorem.{Orders, at_most}
 use Rattle.kept.specs.Below.{Below}
 use Rattle.kept.specs.Tally.{bump, bump_same, bump_other, tally, tally_length, zeros_at}
 use Rattle.kept.specs.Frequencies.{frequencies, frequencies_length}

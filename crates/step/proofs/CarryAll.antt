@@ -12,7 +12,7 @@ use Rattle.rules.specs.Cases.{by_cases}
 use Rattle.theory.specs.OnePass.{carry, depth, depth_from}
 use Rattle.kept.specs.Entries.{always}
 use Rattle.step.specs.Stepped.{Carrying}
-use Rattle.theory.specs.Depth.{depth_most}
+use Rattle.theory.proofs.Depth.{depth_most}
 
 -- where it is found at all, its place is no earlier than where counting starts
 depth_least : (s x : ℕ) (l : List ℕ) → (depth_from (suc s) x l ≡ 0 → ⊥) → suc s ≤ depth_from (suc s) x l

@@ -14,7 +14,7 @@ use Rattle.theory.specs.Priority.{Priority, higher, lower}
 use Rattle.theory.specs.OnePass.{carry, depth, depth_from}
 use Rattle.kept.specs.Entries.{place_entry, always}
 use Rattle.step.specs.EntryLengths.{depth_zero, depth_later, carry_length}
-use Rattle.theory.specs.Depth.{depth_most}
+use Rattle.theory.proofs.Depth.{depth_most}
 use Rattle.rules.specs.Cases.{by_cases}
 use Rattle.step.specs.declared.Carried.{Carried}
 use Rattle.step.specs.Stepped.{Carrying, Placed}

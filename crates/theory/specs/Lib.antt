@@ -4,17 +4,3 @@ pub mod Policy
 pub mod Plain
 pub mod OnePass
 pub mod Visits
--- The marked cases, which test them:
-pub mod MarkedCounts
--- Laws, which antt checks, and the theorems that they lead to:
-pub mod Bags
-pub mod Order
-pub mod PolicyWords
-pub mod Lowest
-pub mod Carry
-pub mod Cut
-pub mod Once
-pub mod Depth
-pub mod SameStep
-pub mod Theorem
-pub mod VisitLaws

@@ -14,7 +14,7 @@ use Rattle.rules.specs.Lists.{holds}
 use Rattle.theory.specs.Priority.{Priority, lower, higher}
 use Rattle.theory.specs.Plain.{lowest}
 use Rattle.theory.specs.OnePass.{carry, place}
-use Rattle.theory.specs.Bags.{sum}
+use Rattle.theory.proofs.Bags.{sum}
 use Rattle.rules.specs.Cases.{by_cases, clash}
 
 module _ (above : Priority) (x : ℕ) where

@@ -4,7 +4,7 @@ use Rattle.std.proofs.Common.{arith, sym, lt-ltb, eq-eqb, ne_eqb}
 use Rattle.rules.specs.Cases.{by_cases, clash}
 use Rattle.rules.specs.Lists.{holds, times}
 use Rattle.theory.specs.Policy.{by_more, smaller, nearness, lru, lfu, opt}
-use Rattle.theory.specs.Order.{by_more_more, by_more_equal}
+use Rattle.theory.proofs.Order.{by_more_more, by_more_equal}
 
 pub nearness_most : (p : ℕ) (l : List ℕ) → nearness p l ≤ length l
 unfolding nearness

@@ -10,9 +10,9 @@ use Rattle.theory.specs.Priority.{Priority, Policy}
 use Rattle.theory.specs.Plain.{evict, refer, cache_after, misses_after}
 use Rattle.theory.specs.OnePass.{list_after}
 use Rattle.theory.specs.Visits.{first_visits, first_in, different}
-use Rattle.theory.specs.Bags.{holds_times}
-use Rattle.theory.specs.Once.{times_evict}
-use Rattle.theory.specs.Theorem.{Orders, list_is_cache, at_most}
+use Rattle.theory.proofs.Bags.{holds_times}
+use Rattle.theory.proofs.Once.{times_evict}
+use Rattle.theory.proofs.Theorem.{Orders, list_is_cache, at_most}
 
 -- what stays when a page leaves was there
 evict_held : (p : ℕ) (above : Priority) (s : List ℕ) → holds p (evict above s) ≡ true → holds p s ≡ true

@@ -10,10 +10,10 @@ use Rattle.rules.specs.Lists.{holds, times, one, without}
 use Rattle.theory.specs.Priority.{Priority, Policy, Order, lower}
 use Rattle.theory.specs.Plain.{lowest, evict, refer, cache_after, hits_after, misses_after}
 use Rattle.theory.specs.OnePass.{place, list_after, unlimited, depth, depth_from, within, depth_hits}
-use Rattle.theory.specs.Bags.{Same, sum, same_holds, same_length, same_times, holds_times}
-use Rattle.theory.specs.Lowest.{Lowest, lowest_is, lowest_unique}
-use Rattle.theory.specs.Carry.{place_found, place_full, place_room}
-use Rattle.theory.specs.Cut.{first_places}
+use Rattle.theory.proofs.Bags.{Same, sum, same_holds, same_length, same_times, holds_times}
+use Rattle.theory.proofs.Lowest.{Lowest, lowest_is, lowest_unique}
+use Rattle.theory.proofs.Carry.{place_found, place_full, place_room}
+use Rattle.theory.proofs.Cut.{first_places}
 use Rattle.rules.specs.Cases.{by_cases, clash}
 
 -- taking a held page out takes its weight out

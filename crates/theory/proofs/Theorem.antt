@@ -8,11 +8,11 @@ use Rattle.rules.specs.Lists.{holds, times, one}
 use Rattle.theory.specs.Priority.{Policy, Order}
 use Rattle.theory.specs.Plain.{cache_after, hits_after, misses_after}
 use Rattle.theory.specs.OnePass.{list_after, unlimited, depth, within, depth_hits}
-use Rattle.theory.specs.Bags.{Same, same_holds, same_times, holds_times}
-use Rattle.theory.specs.SameStep.{same_step}
-use Rattle.theory.specs.Once.{cache_once}
-use Rattle.theory.specs.Depth.{depth_within}
-use Rattle.theory.specs.Cut.{first_places, list_cut}
+use Rattle.theory.proofs.Bags.{Same, same_holds, same_times, holds_times}
+use Rattle.theory.proofs.SameStep.{same_step}
+use Rattle.theory.proofs.Once.{cache_once}
+use Rattle.theory.proofs.Depth.{depth_within}
+use Rattle.theory.proofs.Cut.{first_places, list_cut}
 use Rattle.rules.specs.Cases.{by_cases, clash}
 
 -- a policy whose priority is an order at every moment

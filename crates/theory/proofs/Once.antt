@@ -4,7 +4,7 @@ use Rattle.std.proofs.Common.{arith, sym, ◌∙◌, ap, eqb-true, ltb-false}
 use Rattle.rules.specs.Lists.{holds, times, without}
 use Rattle.theory.specs.Priority.{Priority, Policy}
 use Rattle.theory.specs.Plain.{lowest, evict, refer, cache_after}
-use Rattle.theory.specs.Bags.{holds_times}
+use Rattle.theory.proofs.Bags.{holds_times}
 use Rattle.rules.specs.Cases.{by_cases}
 
 times_without : (p q : ℕ) (l : List ℕ) → times p (without q l) ≤ times p l

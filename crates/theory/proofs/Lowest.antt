@@ -8,7 +8,7 @@ use Rattle.std.proofs.lemmas.Bool.{eqb-false}
 use Rattle.rules.specs.Lists.{holds}
 use Rattle.theory.specs.Priority.{Priority, Order, lower, higher}
 use Rattle.theory.specs.Plain.{lowest}
-use Rattle.theory.specs.Bags.{Same, same_holds}
+use Rattle.theory.proofs.Bags.{Same, same_holds}
 use Rattle.rules.specs.Cases.{by_cases, clash}
 
 -- m is in l, and every other page of l is above it
