@@ -7,7 +7,6 @@ pub mod Gated
 pub mod BankRuns
 pub mod BankPromise
 pub mod BankTest
-pub mod LentBanks
 -- What tests it: the incident, the orders of refusals, and a cut that leaves the front.
 pub mod MarkedBanks
 -- What holds over any calls from fresh banks, and of any answer that meets a promise.

@@ -3,8 +3,7 @@
 ghost use Rattle.std.specs.Prelude.{◌≡◌, cond, ◌+◌, ◌<◌, ◌≤◌, length};
 ghost use Rattle.rules.specs.Limits.{frames, bank_frames};
 ghost use Rattle.rules.specs.Refusals.{wrong_bank_state};
-ghost use Rattle.row_theory.specs.Promise.{Stands};
-ghost use Rattle.row_theory.specs.LentRow.{row_now, row_at_entry, row_at_exit};
+ghost use Rattle.row_theory.specs.Promise.{Stands, memory};
 ghost use Rattle.bank_theory.specs.Banks.{gated_to as «gated_to_of», busy_from as «busy_from_of»};
 ghost use Rattle.bank_theory.specs.BankLending.{Leavable, DroppedOne, Dropped};
 ghost use Rattle.bank_theory.specs.GateLaws.{Stored};
@@ -59,9 +58,9 @@ fn leave_one(
     held: &mut usize,
     frame: u8,
 )
-    requires { Stands (row_now slots places states front held) × (frame < frames) }
-    ensures { DroppedOne (row_at_entry slots places states front held) frame
-        (row_at_exit slots places states front held) }
+    requires { Stands (memory slots.old places.old states.old front.old held.old) × (frame < frames) }
+    ensures { DroppedOne (memory slots.old places.old states.old front.old held.old) frame
+        (memory slots.new places.new states.new front.new held.new) }
 {
     if states[frame as usize] != IDLE {
         return;
@@ -86,9 +85,9 @@ pub(crate) fn leave(
     held: &mut usize,
     first: u8,
 )
-    requires { Leavable (row_now slots places states front held) first }
-    ensures { Dropped (row_at_entry slots places states front held) first bank_frames
-        (row_at_exit slots places states front held) }
+    requires { Leavable (memory slots.old places.old states.old front.old held.old) first }
+    ensures { Dropped (memory slots.old places.old states.old front.old held.old) first bank_frames
+        (memory slots.new places.new states.new front.new held.new) }
 {
     let end = first + BANK_FRAMES;
     let mut frame = first;

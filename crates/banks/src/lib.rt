@@ -10,13 +10,10 @@ mod testing;
 
 ghost use Rattle.std.specs.Prelude.{◌≡◌};
 ghost use Rattle.row_theory.specs.Row.{has_mark};
-ghost use Rattle.row_theory.specs.Promise.{asked};
-ghost use Rattle.row_theory.specs.LentRow.{asked_row};
+ghost use Rattle.row_theory.specs.Promise.{asked, memory, row_with};
 ghost use Rattle.bank_theory.specs.Banks.{of_frame, of_bank, needs_open as «needs_open_of», shut_out};
 ghost use Rattle.bank_theory.specs.Gated.{refused_reply};
-ghost use Rattle.bank_theory.specs.BankPromise.{gated_with, ReachedGates, StandsUnder, AnsweredUnder, FreshBanks};
-ghost use Rattle.bank_theory.specs.BankPromise.{OldestOpen};
-ghost use Rattle.bank_theory.specs.LentBanks.{banks_now, banks_at_entry, banks_at_exit, banks_kept};
+ghost use Rattle.bank_theory.specs.BankPromise.{gated_with, ReachedGates, StandsUnder, AnsweredUnder, FreshBanks, OldestOpen, bank_memory};
 ghost use Rattle.bank_theory.specs.BankLending.{Closing};
 ghost use Rattle.bank_theory.specs.declared.Gating.TheVariants.{Cut};
 
@@ -35,7 +32,7 @@ pub fn fresh(
     held: &mut usize,
     gates: &mut PerFrame,
 )
-    ensures { FreshBanks (banks_at_exit slots places states front held gates) }
+    ensures { FreshBanks (bank_memory (memory slots.new places.new states.new front.new held.new) gates.new) }
 {
     row::fresh(slots, places, states, front, held);
     *gates = [OPEN; FRAMES as usize];
@@ -86,9 +83,9 @@ pub fn call(
     event: Event,
     frame: Frame,
 ) -> Reply
-    requires { StandsUnder (banks_now slots places states front held gates) }
-    ensures { AnsweredUnder (banks_at_entry slots places states front held gates) (of_frame (asked event frame.0)) result
-        (banks_kept slots places states front held gates) }
+    requires { StandsUnder (bank_memory (memory slots.old places.old states.old front.old held.old) gates.old) }
+    ensures { AnsweredUnder (bank_memory (memory slots.old places.old states.old front.old held.old) gates.old) (of_frame (asked event frame.0)) result
+        (bank_memory (memory slots.new places.new states.new front.new held.new) gates.now) }
 {
     if shut(gates, event, frame.0) {
         return refused(BANK_NOT_OPEN);
@@ -106,9 +103,9 @@ fn cut(
     gates: &mut PerFrame,
     bank: u8,
 ) -> Reply
-    requires { Closing (banks_now slots places states front held gates) bank }
-    ensures { AnsweredUnder (banks_at_entry slots places states front held gates) (of_bank Cut bank) result
-        (banks_at_exit slots places states front held gates) }
+    requires { Closing (bank_memory (memory slots.old places.old states.old front.old held.old) gates.old) bank }
+    ensures { AnsweredUnder (bank_memory (memory slots.old places.old states.old front.old held.old) gates.old) (of_bank Cut bank) result
+        (bank_memory (memory slots.new places.new states.new front.new held.new) gates.new) }
 {
     let first = bank * BANK_FRAMES;
     if busy_from(states, first as usize) {
@@ -130,9 +127,9 @@ pub fn gate(
     gating: Gating,
     bank: Bank,
 ) -> Reply
-    requires { StandsUnder (banks_now slots places states front held gates) }
-    ensures { AnsweredUnder (banks_at_entry slots places states front held gates) (of_bank gating bank.0) result
-        (banks_at_exit slots places states front held gates) }
+    requires { StandsUnder (bank_memory (memory slots.old places.old states.old front.old held.old) gates.old) }
+    ensures { AnsweredUnder (bank_memory (memory slots.old places.old states.old front.old held.old) gates.old) (of_bank gating bank.0) result
+        (bank_memory (memory slots.new places.new states.new front.new held.new) gates.new) }
 {
     let b = bank.0;
     if BANKS <= b {
@@ -161,8 +158,8 @@ pub fn victim(
     front: usize,
     held: usize,
 ) -> Victim
-    requires { ReachedGates (asked_row slots states front held) gates.now }
-    ensures { OldestOpen (gated_with (asked_row slots.entry states.entry front held) gates.now) result }
+    requires { ReachedGates (row_with slots.now states.now front held) gates.now }
+    ensures { OldestOpen (gated_with (row_with slots.now states.now front held) gates.now) result }
 {
     row::victim_among(slots, states, gates, front, held)
 }

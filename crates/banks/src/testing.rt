@@ -5,7 +5,8 @@ ghost use Rattle.rules.specs.Limits.{frames, banks as bank_count};
 ghost use Rattle.rules.specs.AllBelow.{all_below};
 ghost use Rattle.bank_theory.specs.BankTest.{bank_sound as «bank_sound_of», BanksTested};
 ghost use Rattle.bank_theory.specs.BankTestLaws.{GateTested};
-ghost use Rattle.bank_theory.specs.LentBanks.{asked_banks};
+ghost use Rattle.bank_theory.specs.BankPromise.{bank_memory};
+ghost use Rattle.row_theory.specs.Promise.{memory};
 
 use bank_theory::{CLOSING, OFF};
 use row_theory::{ABSENT, PerFrame, PerSlot};
@@ -61,7 +62,7 @@ pub fn sound(
     gates: &PerFrame,
 ) -> bool
     ensures { BanksTested
-        (asked_banks slots.entry places.entry states.entry front held gates.entry) result }
+        (bank_memory (memory slots.now places.now states.now front held) gates.now) result }
 {
     if !row::sound(slots, places, states, front, held) {
         return false;

@@ -12,8 +12,7 @@ mod testing;
 ghost use Rattle.std.specs.Prelude.{◌≡◌};
 ghost use Rattle.row_theory.specs.Runs.{Reached};
 ghost use Rattle.row_theory.specs.Row.{any_frame, has_mark};
-ghost use Rattle.row_theory.specs.Promise.{Stands, asked, Answered, FreshRow, OldestIdle, state_in};
-ghost use Rattle.row_theory.specs.LentRow.{row_now, row_at_entry, row_at_exit, asked_row};
+ghost use Rattle.row_theory.specs.Promise.{Stands, asked, Answered, FreshRow, OldestIdle, state_in, memory, row_with};
 
 use row_theory::{ABSENT, BUSY, Event, IDLE, PerFrame, PerSlot, Reply, Victim};
 use rules::{ALL_BUSY, FRAMES, Frame, NOTHING_HELD, Refusal, SLOTS};
@@ -34,9 +33,9 @@ pub fn call(
     event: Event,
     frame: Frame,
 ) -> Reply
-    requires { Stands (row_now slots places states front held) }
-    ensures { Answered (row_at_entry slots places states front held) (asked event frame.0) result
-        (row_at_exit slots places states front held) }
+    requires { Stands (memory slots.old places.old states.old front.old held.old) }
+    ensures { Answered (memory slots.old places.old states.old front.old held.old) (asked event frame.0) result
+        (memory slots.new places.new states.new front.new held.new) }
 {
     let f = frame.0;
     let n = *held;
@@ -62,7 +61,7 @@ pub fn fresh(
     front: &mut usize,
     held: &mut usize,
 )
-    ensures { FreshRow (row_at_exit slots places states front held) }
+    ensures { FreshRow (memory slots.new places.new states.new front.new held.new) }
 {
     *slots = [EMPTY; SLOTS];
     *places = [NOWHERE; FRAMES as usize];
@@ -81,8 +80,8 @@ pub fn victim_among(
     front: usize,
     held: usize,
 ) -> Victim
-    requires { Reached (asked_row slots states front held) }
-    ensures { OldestIdle (asked_row slots.entry states.entry front held) (has_mark marks.now) result }
+    requires { Reached (row_with slots.now states.now front held) }
+    ensures { OldestIdle (row_with slots.now states.now front held) (has_mark marks.now) result }
 {
     let mut i = SLOTS;
     while front < i {
@@ -110,8 +109,8 @@ pub fn victim_among(
 
 // The oldest idle frame (rule W7). The states serve as marks: idle reads 1, so every idle frame bears one.
 pub fn victim(slots: &PerSlot, states: &PerFrame, front: usize, held: usize) -> Victim
-    requires { Reached (asked_row slots states front held) }
-    ensures { OldestIdle (asked_row slots.entry states.entry front held) any_frame result }
+    requires { Reached (row_with slots.now states.now front held) }
+    ensures { OldestIdle (row_with slots.now states.now front held) any_frame result }
 {
     victim_among(slots, states, states, front, held)
 }

@@ -9,7 +9,7 @@ ghost use Rattle.row_theory.specs.Slots.{frames_in};
 ghost use Rattle.row_theory.specs.RowTest.{slot_sound as «slot_sound_of», frame_sound as «frame_sound_of», place_sound as «place_sound_of», row_sound, RowTested};
 ghost use Rattle.row_theory.specs.TestParts.{Sized};
 ghost use Rattle.row_theory.specs.TestSteps.{SlotTested, FrameTested, PlaceTested, RoomTested, full_bit as «full_bit_of»};
-ghost use Rattle.row_theory.specs.LentRow.{asked_memory};
+ghost use Rattle.row_theory.specs.Promise.{memory};
 
 use crate::slots::{EMPTY, NOWHERE};
 use crate::table::held_bit;
@@ -157,8 +157,8 @@ fn room_sound(slots: &[u8], front: usize, held: usize) -> bool
 
 // The parts of the test, the cheapest first.
 fn tested(slots: &[u8], places: &[u8], states: &[u8], front: usize, held: usize) -> bool
-    requires { Sized (asked_memory slots places states front held) }
-    ensures { result ≡ row_sound (asked_memory slots.entry places.entry states.entry front held) }
+    requires { Sized (memory slots.now places.now states.now front held) }
+    ensures { result ≡ row_sound (memory slots.now places.now states.now front held) }
 {
     if SLOTS < front {
         return false;
@@ -189,7 +189,7 @@ pub fn sound(
     front: usize,
     held: usize,
 ) -> bool
-    ensures { RowTested (asked_memory slots.entry places.entry states.entry front held) result }
+    ensures { RowTested (memory slots.now places.now states.now front held) result }
 {
     tested(slots, places, states, front, held)
 }

@@ -2,11 +2,10 @@
 // is the state of its bank: 0 off, 1 open, 2 closing. No call asks anything of the memory: each tests it first (rule X6), and
 // answers 40 and leaves it alone where it fails.
 ghost use Rattle.rules.specs.Told.{told};
-ghost use Rattle.row_theory.specs.Promise.{asked};
+ghost use Rattle.row_theory.specs.Promise.{asked, memory};
 ghost use Rattle.row_theory.specs.declared.Event.TheVariants.{Put, Touch, Start, End, Drop};
 ghost use Rattle.bank_theory.specs.Banks.{of_frame, of_bank};
-ghost use Rattle.bank_theory.specs.BankPromise.{FreshBanks};
-ghost use Rattle.bank_theory.specs.LentBanks.{banks_at_entry, banks_at_exit, banks_kept, asked_banks};
+ghost use Rattle.bank_theory.specs.BankPromise.{FreshBanks, bank_memory};
 ghost use Rattle.bank_theory.specs.declared.Gating.TheVariants.{Close, Cut, Open};
 ghost use Rattle.row_exports.specs.BanksTold.{BanksTold, OpenVictimTold, BanksSoundTold};
 
@@ -27,8 +26,8 @@ fn call(
     frame: u32,
     value: &mut usize,
 ) -> u32
-    ensures { BanksTold (banks_at_entry slots places states front held gates) (of_frame (asked event frame))
-        (told result value.new) (banks_kept slots places states front held gates) }
+    ensures { BanksTold (bank_memory (memory slots.old places.old states.old front.old held.old) gates.old) (of_frame (asked event frame))
+        (told result value.new) (bank_memory (memory slots.new places.new states.new front.new held.new) gates.now) }
 {
     if !banks::sound(slots, places, states, *front, *held, gates) {
         return unsound(value);
@@ -58,8 +57,8 @@ fn gate(
     bank: u32,
     value: &mut usize,
 ) -> u32
-    ensures { BanksTold (banks_at_entry slots places states front held gates) (of_bank gating bank)
-        (told result value.new) (banks_at_exit slots places states front held gates) }
+    ensures { BanksTold (bank_memory (memory slots.old places.old states.old front.old held.old) gates.old) (of_bank gating bank)
+        (told result value.new) (bank_memory (memory slots.new places.new states.new front.new held.new) gates.new) }
 {
     if !banks::sound(slots, places, states, *front, *held, gates) {
         return unsound(value);
@@ -87,7 +86,7 @@ pub extern "C" fn musselrung_banks_fresh_parts(
     held: &mut usize,
     gates: &mut PerFrame,
 )
-    ensures { FreshBanks (banks_at_exit slots places states front held gates) }
+    ensures { FreshBanks (bank_memory (memory slots.new places.new states.new front.new held.new) gates.new) }
 {
     banks::fresh(slots, places, states, front, held, gates)
 }
@@ -104,8 +103,8 @@ pub extern "C" fn musselrung_banks_put_parts(
     frame: u32,
     value: &mut usize,
 ) -> u32
-    ensures { BanksTold (banks_at_entry slots places states front held gates) (of_frame (asked Put frame))
-        (told result value.new) (banks_kept slots places states front held gates) }
+    ensures { BanksTold (bank_memory (memory slots.old places.old states.old front.old held.old) gates.old) (of_frame (asked Put frame))
+        (told result value.new) (bank_memory (memory slots.new places.new states.new front.new held.new) gates.now) }
 {
     call(
         slots,
@@ -132,8 +131,8 @@ pub extern "C" fn musselrung_banks_touch_parts(
     frame: u32,
     value: &mut usize,
 ) -> u32
-    ensures { BanksTold (banks_at_entry slots places states front held gates) (of_frame (asked Touch frame))
-        (told result value.new) (banks_kept slots places states front held gates) }
+    ensures { BanksTold (bank_memory (memory slots.old places.old states.old front.old held.old) gates.old) (of_frame (asked Touch frame))
+        (told result value.new) (bank_memory (memory slots.new places.new states.new front.new held.new) gates.now) }
 {
     call(
         slots,
@@ -160,8 +159,8 @@ pub extern "C" fn musselrung_banks_start_parts(
     frame: u32,
     value: &mut usize,
 ) -> u32
-    ensures { BanksTold (banks_at_entry slots places states front held gates) (of_frame (asked Start frame))
-        (told result value.new) (banks_kept slots places states front held gates) }
+    ensures { BanksTold (bank_memory (memory slots.old places.old states.old front.old held.old) gates.old) (of_frame (asked Start frame))
+        (told result value.new) (bank_memory (memory slots.new places.new states.new front.new held.new) gates.now) }
 {
     call(
         slots,
@@ -188,8 +187,8 @@ pub extern "C" fn musselrung_banks_end_parts(
     frame: u32,
     value: &mut usize,
 ) -> u32
-    ensures { BanksTold (banks_at_entry slots places states front held gates) (of_frame (asked End frame))
-        (told result value.new) (banks_kept slots places states front held gates) }
+    ensures { BanksTold (bank_memory (memory slots.old places.old states.old front.old held.old) gates.old) (of_frame (asked End frame))
+        (told result value.new) (bank_memory (memory slots.new places.new states.new front.new held.new) gates.now) }
 {
     call(
         slots,
@@ -216,8 +215,8 @@ pub extern "C" fn musselrung_banks_drop_parts(
     frame: u32,
     value: &mut usize,
 ) -> u32
-    ensures { BanksTold (banks_at_entry slots places states front held gates) (of_frame (asked Drop frame))
-        (told result value.new) (banks_kept slots places states front held gates) }
+    ensures { BanksTold (bank_memory (memory slots.old places.old states.old front.old held.old) gates.old) (of_frame (asked Drop frame))
+        (told result value.new) (bank_memory (memory slots.new places.new states.new front.new held.new) gates.now) }
 {
     call(
         slots,
@@ -244,8 +243,8 @@ pub extern "C" fn musselrung_banks_close_parts(
     bank: u32,
     value: &mut usize,
 ) -> u32
-    ensures { BanksTold (banks_at_entry slots places states front held gates) (of_bank Close bank)
-        (told result value.new) (banks_at_exit slots places states front held gates) }
+    ensures { BanksTold (bank_memory (memory slots.old places.old states.old front.old held.old) gates.old) (of_bank Close bank)
+        (told result value.new) (bank_memory (memory slots.new places.new states.new front.new held.new) gates.new) }
 {
     gate(
         slots,
@@ -272,8 +271,8 @@ pub extern "C" fn musselrung_banks_cut_parts(
     bank: u32,
     value: &mut usize,
 ) -> u32
-    ensures { BanksTold (banks_at_entry slots places states front held gates) (of_bank Cut bank)
-        (told result value.new) (banks_at_exit slots places states front held gates) }
+    ensures { BanksTold (bank_memory (memory slots.old places.old states.old front.old held.old) gates.old) (of_bank Cut bank)
+        (told result value.new) (bank_memory (memory slots.new places.new states.new front.new held.new) gates.new) }
 {
     gate(
         slots,
@@ -300,8 +299,8 @@ pub extern "C" fn musselrung_banks_open_parts(
     bank: u32,
     value: &mut usize,
 ) -> u32
-    ensures { BanksTold (banks_at_entry slots places states front held gates) (of_bank Open bank)
-        (told result value.new) (banks_at_exit slots places states front held gates) }
+    ensures { BanksTold (bank_memory (memory slots.old places.old states.old front.old held.old) gates.old) (of_bank Open bank)
+        (told result value.new) (bank_memory (memory slots.new places.new states.new front.new held.new) gates.new) }
 {
     gate(
         slots,
@@ -328,7 +327,7 @@ pub extern "C" fn musselrung_banks_victim_parts(
     value: &mut usize,
 ) -> u32
     ensures { OpenVictimTold
-        (asked_banks slots.entry places.entry states.entry front held gates.entry) (told result value.new) }
+        (bank_memory (memory slots.now places.now states.now front held) gates.now) (told result value.new) }
 {
     if banks::sound(slots, places, states, front, held, gates) {
         let victim = banks::victim(slots, states, gates, front, held);
@@ -348,7 +347,7 @@ pub extern "C" fn musselrung_banks_sound_parts(
     gates: &PerFrame,
 ) -> u32
     ensures { BanksSoundTold
-        (asked_banks slots.entry places.entry states.entry front held gates.entry) result }
+        (bank_memory (memory slots.now places.now states.now front held) gates.now) result }
 {
     let passes = banks::sound(slots, places, states, front, held, gates);
     tell_test(passes)

@@ -1,8 +1,7 @@
 // The frame row for callers in C and Rust: the row stands in memory that the caller lends, in parts. No call asks anything of
 // it: each tests it first (rule X5), and answers 40 and leaves it alone where it fails.
 ghost use Rattle.rules.specs.Told.{told};
-ghost use Rattle.row_theory.specs.Promise.{FreshRow, asked};
-ghost use Rattle.row_theory.specs.LentRow.{row_at_entry, row_at_exit, asked_memory};
+ghost use Rattle.row_theory.specs.Promise.{FreshRow, asked, memory};
 ghost use Rattle.row_theory.specs.declared.Event.TheVariants.{Put, Touch, Start, End, Drop};
 ghost use Rattle.row_exports.specs.RowTold.{RowTold, VictimTold, RowSoundTold};
 
@@ -21,8 +20,8 @@ fn call(
     frame: u32,
     value: &mut usize,
 ) -> u32
-    ensures { RowTold (row_at_entry slots places states front held) (asked event frame) (told result value.new)
-        (row_at_exit slots places states front held) }
+    ensures { RowTold (memory slots.old places.old states.old front.old held.old) (asked event frame) (told result value.new)
+        (memory slots.new places.new states.new front.new held.new) }
 {
     if !row::sound(slots, places, states, *front, *held) {
         return unsound(value);
@@ -48,7 +47,7 @@ pub extern "C" fn musselrung_row_fresh_parts(
     front: &mut usize,
     held: &mut usize,
 )
-    ensures { FreshRow (row_at_exit slots places states front held) }
+    ensures { FreshRow (memory slots.new places.new states.new front.new held.new) }
 {
     row::fresh(slots, places, states, front, held)
 }
@@ -64,8 +63,8 @@ pub extern "C" fn musselrung_row_put_parts(
     frame: u32,
     value: &mut usize,
 ) -> u32
-    ensures { RowTold (row_at_entry slots places states front held) (asked Put frame) (told result value.new)
-        (row_at_exit slots places states front held) }
+    ensures { RowTold (memory slots.old places.old states.old front.old held.old) (asked Put frame) (told result value.new)
+        (memory slots.new places.new states.new front.new held.new) }
 {
     call(slots, places, states, front, held, Event::Put, frame, value)
 }
@@ -81,8 +80,8 @@ pub extern "C" fn musselrung_row_touch_parts(
     frame: u32,
     value: &mut usize,
 ) -> u32
-    ensures { RowTold (row_at_entry slots places states front held) (asked Touch frame) (told result value.new)
-        (row_at_exit slots places states front held) }
+    ensures { RowTold (memory slots.old places.old states.old front.old held.old) (asked Touch frame) (told result value.new)
+        (memory slots.new places.new states.new front.new held.new) }
 {
     call(
         slots,
@@ -107,8 +106,8 @@ pub extern "C" fn musselrung_row_start_parts(
     frame: u32,
     value: &mut usize,
 ) -> u32
-    ensures { RowTold (row_at_entry slots places states front held) (asked Start frame) (told result value.new)
-        (row_at_exit slots places states front held) }
+    ensures { RowTold (memory slots.old places.old states.old front.old held.old) (asked Start frame) (told result value.new)
+        (memory slots.new places.new states.new front.new held.new) }
 {
     call(
         slots,
@@ -133,8 +132,8 @@ pub extern "C" fn musselrung_row_end_parts(
     frame: u32,
     value: &mut usize,
 ) -> u32
-    ensures { RowTold (row_at_entry slots places states front held) (asked End frame) (told result value.new)
-        (row_at_exit slots places states front held) }
+    ensures { RowTold (memory slots.old places.old states.old front.old held.old) (asked End frame) (told result value.new)
+        (memory slots.new places.new states.new front.new held.new) }
 {
     call(slots, places, states, front, held, Event::End, frame, value)
 }
@@ -150,8 +149,8 @@ pub extern "C" fn musselrung_row_drop_parts(
     frame: u32,
     value: &mut usize,
 ) -> u32
-    ensures { RowTold (row_at_entry slots places states front held) (asked Drop frame) (told result value.new)
-        (row_at_exit slots places states front held) }
+    ensures { RowTold (memory slots.old places.old states.old front.old held.old) (asked Drop frame) (told result value.new)
+        (memory slots.new places.new states.new front.new held.new) }
 {
     call(
         slots,
@@ -175,7 +174,7 @@ pub extern "C" fn musselrung_row_victim_parts(
     held: usize,
     value: &mut usize,
 ) -> u32
-    ensures { VictimTold (asked_memory slots.entry places.entry states.entry front held)
+    ensures { VictimTold (memory slots.now places.now states.now front held)
         (told result value.new) }
 {
     if row::sound(slots, places, states, front, held) {
@@ -194,7 +193,7 @@ pub extern "C" fn musselrung_row_sound_parts(
     front: usize,
     held: usize,
 ) -> u32
-    ensures { RowSoundTold (asked_memory slots.entry places.entry states.entry front held) result }
+    ensures { RowSoundTold (memory slots.now places.now states.now front held) result }
 {
     let passes = row::sound(slots, places, states, front, held);
     tell_test(passes)

@@ -8,7 +8,6 @@ pub mod History
 pub mod Runs
 pub mod Promise
 pub mod RowTest
-pub mod LentRow
 -- What holds over any calls from a fresh row, and of any answer that meets a promise.
 pub mod Theorems
 pub mod Answers

@@ -4,7 +4,6 @@
 pub mod Limits
 pub mod Refusals
 pub mod Lists
-pub mod Lent
 pub mod Told
 pub mod AllBelow
 pub mod Narrow

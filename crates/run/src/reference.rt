@@ -3,8 +3,7 @@
 // called in one place only, so that the compiler can put it into the loop.
 ghost use Rattle.std.specs.Prelude.{◌-◌, ◌≡◌, get_or};
 ghost use Rattle.kept.specs.Entries.{entry as «entry_of», always};
-ghost use Rattle.run.specs.Referred.{count_in, count_stored, one_more as «one_more_of»};
-ghost use Rattle.run.specs.Referred.{Ranking, Tallied, Ranked, Referred};
+ghost use Rattle.run.specs.Referred.{count_in, count_stored, one_more as «one_more_of», Ranking, Tallied, Ranked, Referred};
 ghost use Rattle.run.specs.ReferredAll.{run_memory, ReferredAll};
 
 use crate::counting::count_depth;

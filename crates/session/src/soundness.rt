@@ -6,8 +6,7 @@ ghost use Rattle.rules.specs.Limits.{capacities, pages};
 ghost use Rattle.rules.specs.AllBelow.{all_below};
 ghost use Rattle.kept.specs.Entries.{page_of as «page_of_entry»};
 ghost use Rattle.session.specs.Lent.{lent_of};
-ghost use Rattle.session.specs.Tests.{sound as «sound_of», total};
-ghost use Rattle.session.specs.Tests.{stands_else, page_stands as «page_stands_of», place_stands as «place_stands_of», counts_add_up as «counts_add_up_of»};
+ghost use Rattle.session.specs.Tests.{sound as «sound_of», total, stands_else, page_stands as «page_stands_of», place_stands as «place_stands_of», counts_add_up as «counts_add_up_of»};
 
 use crate::{Session, countable};
 use kept::DEPTHS;
