@@ -28,7 +28,7 @@ frequency_is (x ∷ past) h p =
       ← eqb-true x p e,
       bump_same x (frequencies past) (omega (arith, h.0, frequencies_length past)),
       frequency_is past h.1 x,
-    ) (omega arith))
+    ) (omega (arith, ap (λ (q : ℕ). times q past) (eqb-true x p e))))
     (λ e. rw (e, bump_other x p (frequencies past) (λ q. eqb-false x p e (sym q)), frequency_is past h.1 p))
 
 pub times_most : (p : ℕ) (past : List ℕ) → times p past ≤ length past
