@@ -1,8 +1,8 @@
 -- Lists of pages that are all below a limit: what a run of such pages gives is below it too.
-use Rattle.std.specs.Prelude.{ℕ, zero, suc, ◌≤◌, ◌<◌, Bool, true, false, cond, eqb, take}
+use Rattle.std.specs.Prelude.{ℕ, zero, suc, ◌≤◌, ◌<◌, eqb, take}
 use Rattle.std.proofs.Common.{arith}
 use mathlib.Core.List.{List, [], ◌∷◌}
-use Rattle.theory.specs.Priority.{Priority, Policy, higher, lower}
+use Rattle.theory.specs.Priority.{Priority, Policy}
 use Rattle.theory.specs.OnePass.{carry, place, step, list_after}
 use Rattle.rules.specs.Cases.{by_cases}
 

@@ -1,6 +1,6 @@
 -- A list kept as entries: a page and its rank in one number, so that comparing two entries compares two pages, and only the
 -- entry of the referenced page ever changes.
-use Rattle.std.specs.Prelude.{ℕ, zero, suc, ◌+◌, ◌*◌, ◌-◌, ◌%◌, Bool, true, cond, List, [], ◌∷◌, ltb, eqb}
+use Rattle.std.specs.Prelude.{ℕ, ◌+◌, ◌*◌, ◌-◌, ◌%◌, true, cond, List, [], ◌∷◌, ltb, eqb}
 use Rattle.theory.specs.Priority.{Priority}
 use Rattle.theory.specs.OnePass.{carry}
 

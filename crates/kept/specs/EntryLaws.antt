@@ -1,12 +1,12 @@
 -- Entries stand in the order of their pages' priority, and a reference to a page is a `place_entry` of its entry.
-use Rattle.std.specs.Prelude.{ℕ, zero, suc, ◌+◌, ◌*◌, ◌-◌, ◌≤◌, ◌<◌, Bool, true, false, cond, ◌≡◌, eqb}
-use Rattle.std.proofs.Common.{arith, sym, ◌∙◌, ap}
+use Rattle.std.specs.Prelude.{ℕ, ◌≤◌, ◌<◌, false, ◌≡◌, eqb}
+use Rattle.std.proofs.Common.{arith, ◌∙◌, ap}
 use Rattle.std.proofs.Math.Path.{refl}
 use mathlib.Core.List.{List, [], ◌∷◌, map}
 use Rattle.std.proofs.Math.Dec.{ltb}
 use borrow.Author.Tests.{eqb-true, eqb-false, eq-eqb, ne_eqb, ltb-true, ltb-false, lt-ltb, le-ltb}
 use Rattle.rules.specs.Lists.{holds, times}
-use Rattle.theory.specs.Priority.{Priority, Policy, higher, lower}
+use Rattle.theory.specs.Priority.{Priority}
 use Rattle.theory.specs.Policy.{by_more, smaller}
 use Rattle.theory.specs.OnePass.{carry, place}
 use Rattle.kept.specs.Entries.{entry, page_of, larger, place_entry}

@@ -1,22 +1,18 @@
 -- Laws of what code keeps of a run: what stands behind a list in memory, and what a run under LRU or LFU does not depend on.
-use Rattle.std.specs.Prelude.{ℕ, zero, suc, ◌+◌, ◌-◌, ◌≤◌, ◌<◌, true, false, ◌≡◌, List, [], ◌++◌, eqb, length, take, drop, get_or, replicate}
-use Rattle.std.proofs.Common.{arith, ◌∙◌, ap, length-append, take_at, eq-eqb}
+use Rattle.std.specs.Prelude.{ℕ, zero, suc, ◌+◌, ◌-◌, ◌≤◌, ◌<◌, ◌≡◌, List, [], ◌++◌, eqb, length, take, drop, replicate}
+use Rattle.std.proofs.Common.{arith, ◌∙◌, ap, length-append, take_at}
 use Rattle.std.proofs.lemmas.List.{length-replicate, length-map}
 use Rattle.std.proofs.Math.Seq.{drop-append-add}
-use Rattle.std.proofs.lemmas.Bool.{eqb-false}
-use Rattle.rules.specs.Limits.{capacities, pages, lru, lfu, opt}
+use Rattle.rules.specs.Limits.{capacities, pages, lfu, opt}
 use Rattle.rules.specs.Cases.{by_cases}
 use Rattle.theory.specs.Policy.{policy_of}
 use Rattle.theory.specs.OnePass.{list_after}
 use Rattle.theory.proofs.Order.{policy_order}
 use Rattle.theory.proofs.Theorem.{at_most}
-use Rattle.kept.specs.Below.{Below}
 use Rattle.kept.specs.Entries.{entry}
-use Rattle.kept.specs.Rankings.{Ranking, unranked, frequency, sooner, ranking_of}
+use Rattle.kept.specs.Rankings.{Ranking}
 use Rattle.kept.specs.Kept.{kept}
-use Rattle.kept.specs.Tally.{zeros_at}
-use Rattle.kept.specs.Frequencies.{frequencies, frequency_is}
-use Rattle.kept.specs.Nexts.{coming_is}
+use Rattle.kept.specs.Frequencies.{frequencies}
 use Rattle.kept.specs.PastOnly.{list_past_only, tally_past_only, policy_past_only, ranking_past_only}
 use Rattle.kept.specs.Memory.{length_after, padded, places_after, depths_after, counts_after, Running}
 

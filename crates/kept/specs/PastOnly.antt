@@ -1,5 +1,5 @@
 -- Policies that look back only, LRU and LFU: what is still to come changes nothing, so a session needs no future.
-use Rattle.std.specs.Prelude.{ℕ, ◌<◌, false, ◌≡◌, eqb}
+use Rattle.std.specs.Prelude.{ℕ, ◌<◌, ◌≡◌, eqb}
 use Rattle.std.proofs.Common.{arith, eqb-true}
 use Rattle.std.proofs.Math.Path.{refl}
 use mathlib.Core.List.{List, [], ◌∷◌}
@@ -8,7 +8,7 @@ use Rattle.rules.specs.Limits as limits
 use Rattle.rules.specs.Cases.{by_cases}
 use Rattle.theory.specs.Priority.{Policy}
 use Rattle.theory.specs.Policy.{lru, lfu, policy_of}
-use Rattle.theory.specs.OnePass.{list_after, step, depth}
+use Rattle.theory.specs.OnePass.{list_after}
 use Rattle.kept.specs.Rankings.{unranked, frequency, ranking_of}
 use Rattle.kept.specs.Tally.{tally}
 

@@ -1,11 +1,11 @@
 -- Under LRU the list stands in the order of last references, so the carried page is always the higher one: carrying is a shift.
-use Rattle.std.specs.Prelude.{ℕ, zero, suc, ◌≤◌, ◌<◌, Bool, true, false, cond, ◌≡◌, ltb, eqb, length, take}
-use Rattle.std.proofs.Common.{arith, sym, ◌∙◌}
+use Rattle.std.specs.Prelude.{ℕ, zero, suc, ◌≤◌, ◌<◌, true, ◌≡◌, eqb, length, take}
+use Rattle.std.proofs.Common.{arith, sym}
 use Rattle.std.proofs.Math.Path.{refl, ap}
 use mathlib.Core.List.{List, [], ◌∷◌}
 use borrow.Author.Tests.{eqb-true, eqb-false, eq-eqb, ne_eqb, lt-ltb}
-use Rattle.theory.specs.Priority.{Priority, higher, lower}
-use Rattle.theory.specs.Policy.{by_more, smaller, nearness, lru}
+use Rattle.theory.specs.Priority.{Priority}
+use Rattle.theory.specs.Policy.{by_more, nearness, lru}
 use Rattle.theory.proofs.PolicyWords.{nearness_most}
 use Rattle.theory.specs.OnePass.{carry, place, step, list_after}
 use Rattle.rules.specs.Cases.{by_cases}
