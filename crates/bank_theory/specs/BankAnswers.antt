@@ -9,7 +9,7 @@ use Rattle.rules.specs.Cases.{by_cases}
 use Rattle.rules.specs.declared.Frame.{Frame}
 use Rattle.row_theory.specs.States.{Call, absent, idle, busy, state_of, refusal_of, accepts}
 use Rattle.row_theory.specs.Row.{Row, after, reply_number, reply_place}
-use Rattle.row_theory.specs.SoundRow.{after_refused}
+use Rattle.row_theory.proofs.SoundRow.{after_refused}
 use Rattle.row_theory.specs.declared.Reply.{Reply}
 use Rattle.row_theory.specs.declared.Reply.TheVariants.{Done}
 use Rattle.row_theory.specs.declared.Victim.{Victim}

@@ -10,8 +10,8 @@ use Rattle.row_theory.specs.Row.{reply_of, examined_of}
 use Rattle.row_theory.specs.History.{states_after, moves_last, moment_after, moves_after}
 use Rattle.row_theory.specs.Runs.{row_after, examined_after}
 use Rattle.row_theory.specs.Promise.{asked}
-use Rattle.row_theory.specs.Moments.{moment_bound, moment_kept}
-use Rattle.row_theory.specs.Bound.{examined_rule}
+use Rattle.row_theory.proofs.Moments.{moment_bound, moment_kept}
+use Rattle.row_theory.proofs.Bound.{examined_rule}
 use Rattle.row_theory.specs.declared.Event.TheVariants.{Drop}
 use Rattle.bank_theory.specs.declared.Gating.{Gating}
 use Rattle.bank_theory.specs.Banks.{Step, of_frame, of_bank, takes, cuts, shut}

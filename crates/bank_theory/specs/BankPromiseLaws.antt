@@ -7,7 +7,7 @@ use Rattle.row_theory.specs.Slots.{places_in}
 use Rattle.row_theory.specs.Row.{reply_number, reply_place}
 use Rattle.row_theory.specs.Runs.{Reached}
 use Rattle.row_theory.specs.Promise.{Stands}
-use Rattle.row_theory.specs.PromiseLaws.{number_of_reply, place_of_reply, same_memory}
+use Rattle.row_theory.proofs.PromiseLaws.{number_of_reply, place_of_reply, same_memory}
 use Rattle.row_theory.specs.declared.Reply.{Reply}
 use Rattle.row_theory.specs.declared.Victim.{Victim}
 use Rattle.bank_theory.specs.Banks.{Step, of_frame, of_bank, gating_refusal, shut}

@@ -9,8 +9,8 @@ use Rattle.rules.specs.Cases.{by_cases}
 use Rattle.row_theory.specs.States.{absent, idle, busy, state_of, table_at, verdict_of, accepts}
 use Rattle.row_theory.specs.Row.{Row, after, has_mark}
 use Rattle.row_theory.specs.Promise.{Memory, row_in, Stands, asked, Answered}
-use Rattle.row_theory.specs.PromiseLaws.{ordered}
-use Rattle.row_theory.specs.SoundRow.{after_refused}
+use Rattle.row_theory.proofs.PromiseLaws.{ordered}
+use Rattle.row_theory.proofs.SoundRow.{after_refused}
 use Rattle.row_theory.specs.declared.Event.{Event}
 use Rattle.row_theory.specs.declared.Event.TheVariants.{Drop}
 use Rattle.row_theory.specs.declared.Reply.{Reply}

@@ -12,7 +12,7 @@ use Rattle.rules.specs.AllBelow.{all_below, all_at, all_make}
 use Rattle.row_theory.specs.States.{absent, state_of}
 use Rattle.row_theory.specs.RowTest.{row_sound, RowTested}
 use Rattle.row_theory.specs.TestParts.{Sized}
-use Rattle.row_theory.specs.TestLaws.{sound_stands, stands_sound, stands_sized}
+use Rattle.row_theory.proofs.TestLaws.{sound_stands, stands_sound, stands_sized}
 use Rattle.bank_theory.specs.Banks.{Step, of_frame, of_bank, bank_of, off, closing, bank_state, gated_to, takes}
 use Rattle.bank_theory.specs.Banks.{fresh_banks, banks_under}
 use Rattle.bank_theory.specs.BankHistory.{Seen, seen_then, seen_after}

@@ -10,9 +10,9 @@ use Rattle.row_theory.specs.States.{Call, absent, busy, state_of}
 use Rattle.row_theory.specs.Row.{Row, victim_among}
 use Rattle.row_theory.specs.History.{states_after, VictimIs}
 use Rattle.row_theory.specs.Runs.{row_after}
-use Rattle.row_theory.specs.GoodStates.{busy_held}
-use Rattle.row_theory.specs.VictimLaws.{victim_alike}
-use Rattle.row_theory.specs.Theorems.{victim_says, examined_bound}
+use Rattle.row_theory.proofs.GoodStates.{busy_held}
+use Rattle.row_theory.proofs.VictimLaws.{victim_alike}
+use Rattle.row_theory.proofs.Theorems.{victim_says, examined_bound}
 use Rattle.row_theory.specs.declared.Victim.TheVariants.{Given}
 use Rattle.bank_theory.specs.declared.Gating.{Gating}
 use Rattle.bank_theory.specs.declared.Gating.TheVariants.{Close, Cut, Open}

@@ -14,9 +14,9 @@ use Rattle.row_theory.specs.Row.{Row, moved}
 use Rattle.row_theory.specs.Runs.{row_after}
 use Rattle.row_theory.specs.Promise.{asked}
 use Rattle.row_theory.specs.StateLaws.{held_bit_small}
-use Rattle.row_theory.specs.GoodStates.{good_after}
-use Rattle.row_theory.specs.SoundRow.{sound_after, after_accepted, after_refused}
-use Rattle.row_theory.specs.Theorems.{slots_hold}
+use Rattle.row_theory.proofs.GoodStates.{good_after}
+use Rattle.row_theory.proofs.SoundRow.{sound_after, after_accepted, after_refused}
+use Rattle.row_theory.proofs.Theorems.{slots_hold}
 use Rattle.row_theory.specs.declared.Event.TheVariants.{Drop}
 use Rattle.bank_theory.specs.Gated.{row_without}
 use Rattle.bank_theory.specs.BankRuns.{drops}

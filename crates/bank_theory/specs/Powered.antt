@@ -10,7 +10,7 @@ use Rattle.rules.specs.Limits
 use Rattle.rules.specs.Cases.{by_cases, clash}
 use Rattle.row_theory.specs.States.{Call, absent, state_of, is_put, accepts}
 use Rattle.row_theory.specs.StateLaws.{accepted, put_absent}
-use Rattle.row_theory.specs.GoodStates.{GoodStates, good_after, states_refused, state_other}
+use Rattle.row_theory.proofs.GoodStates.{GoodStates, good_after, states_refused, state_other}
 use Rattle.row_theory.specs.declared.Event.{Event}
 use Rattle.row_theory.specs.declared.Event.TheVariants.{Put, Touch, Start, End, Drop}
 use Rattle.bank_theory.specs.declared.Gating.{Gating}

@@ -15,8 +15,8 @@ use Rattle.row_theory.specs.States.{Call, absent, state_of, held_bit, held_in}
 use Rattle.row_theory.specs.Row.{Row, after}
 use Rattle.row_theory.specs.Runs.{row_after, Reached}
 use Rattle.row_theory.specs.StateLaws.{held_bit_absent}
-use Rattle.row_theory.specs.Tidy.{Tidy, tidy}
-use Rattle.row_theory.specs.RebuildCalls.{set_back}
+use Rattle.row_theory.proofs.Tidy.{Tidy, tidy}
+use Rattle.row_theory.proofs.RebuildCalls.{set_back}
 use Rattle.bank_theory.specs.declared.Gating.TheVariants.{Close, Cut}
 use Rattle.bank_theory.specs.Banks.{Step, of_frame, of_bank, bank_of, in_bank, in_open, off, opened, closing, bank_state}
 use Rattle.bank_theory.specs.Banks.{fresh_banks, gated_to, busy_from, busy_in, gating_refusal, needs_open, shut_out, shut}

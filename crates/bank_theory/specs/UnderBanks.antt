@@ -9,8 +9,8 @@ use Rattle.row_theory.specs.States.{Call, state_of, accepts, states_then}
 use Rattle.row_theory.specs.Row.{Row, empty_row, moved, after}
 use Rattle.row_theory.specs.Runs.{row_after}
 use Rattle.row_theory.specs.History.{states_after}
-use Rattle.row_theory.specs.GoodStates.{good_after, states_refused}
-use Rattle.row_theory.specs.SoundRow.{sound_after, after_accepted, after_refused}
+use Rattle.row_theory.proofs.GoodStates.{good_after, states_refused}
+use Rattle.row_theory.proofs.SoundRow.{sound_after, after_accepted, after_refused}
 use Rattle.bank_theory.specs.declared.Gating.{Gating}
 use Rattle.bank_theory.specs.Banks.{Step, of_frame, of_bank, in_bank, is_cut, gating_refusal, takes, cuts, shut, states_under}
 use Rattle.bank_theory.specs.Banks.{banks_under}

@@ -11,10 +11,10 @@ use Rattle.row_theory.specs.States.{Call, busy, state_of, table_at, cell_of, hel
 use Rattle.row_theory.specs.Row.{reply_of}
 use Rattle.row_theory.specs.Runs.{row_after}
 use Rattle.row_theory.specs.Promise.{Memory, row_in, FreshRow}
-use Rattle.row_theory.specs.PromiseLaws.{number_of_reply}
+use Rattle.row_theory.proofs.PromiseLaws.{number_of_reply}
 use Rattle.row_theory.specs.RowTest.{row_sound}
 use Rattle.row_theory.specs.TestParts.{Sized}
-use Rattle.row_theory.specs.TestLaws.{sound_stands, stands_sound}
+use Rattle.row_theory.proofs.TestLaws.{sound_stands, stands_sound}
 use Rattle.row_theory.specs.declared.Event.{Event}
 use Rattle.row_theory.specs.declared.Event.TheVariants.{Put, Touch, Start, End, Drop}
 use Rattle.bank_theory.specs.declared.Gating.{Gating}

@@ -11,9 +11,9 @@ use Rattle.row_theory.specs.States.{Call, refusal_of}
 use Rattle.row_theory.specs.Row.{Row, any_frame, after, reply_of, reply_number, victim_of}
 use Rattle.row_theory.specs.Runs.{row_after}
 use Rattle.row_theory.specs.Promise.{Memory, row_in, Stands, Answered, OldestIdle}
-use Rattle.row_theory.specs.PromiseLaws.{number_of_reply}
-use Rattle.row_theory.specs.SoundRow.{sound_after}
-use Rattle.row_theory.specs.Theorems.{idle_victim_says}
+use Rattle.row_theory.proofs.PromiseLaws.{number_of_reply}
+use Rattle.row_theory.proofs.SoundRow.{sound_after}
+use Rattle.row_theory.proofs.Theorems.{idle_victim_says}
 use Rattle.row_theory.specs.RowTest.{row_sound, RowTested}
 use Rattle.row_theory.specs.declared.Reply.{Reply}
 use Rattle.row_theory.specs.declared.Reply.TheVariants.{Done, Refused}

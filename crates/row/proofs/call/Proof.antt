@@ -1,7 +1,7 @@
 -- `row::call` meets its contract: the verdict, then the steps it allows, each by the law for it. Assumes nothing.
 use native.Mathlib.Omega.{arith}
 use borrow.Author.Rules.{rules}
-use Rattle.row_theory.specs.CallLaws.{known_states, call_refused, call_allowed, call_done}
+use Rattle.row_theory.proofs.CallLaws.{known_states, call_refused, call_allowed, call_done}
 use Rattle.row.proofs.call.Statement.{statement}
 use Rattle.row.proofs.call.Tie as tie
 

@@ -2,7 +2,7 @@
 use mathlib.Core.Path.{refl}
 use Rattle.row_theory.specs.Row.{empty_row}
 use Rattle.row_theory.specs.Slots.{places_in, places_from, slot_of}
-use Rattle.row_theory.specs.PromiseLaws.{fresh_row_law}
+use Rattle.row_theory.proofs.PromiseLaws.{fresh_row_law}
 use Rattle.row.proofs.fresh.Statement.{statement}
 use Rattle.row.proofs.fresh.Tie as tie
 

@@ -1,6 +1,6 @@
 -- `row::victim` meets its contract: the states are the marks, so every idle frame bears one. Assumes nothing.
 use borrow.Author.Rules.{rules}
-use Rattle.row_theory.specs.Scan.{states_as_marks}
+use Rattle.row_theory.proofs.Scan.{states_as_marks}
 use Rattle.row.proofs.victim.Statement.{statement}
 use Rattle.row.proofs.victim.Tie as tie
 

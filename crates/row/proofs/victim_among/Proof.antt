@@ -1,8 +1,8 @@
 -- `row::victim_among` meets its contract. The invariant is `Looked`: no frame that may be given up from this slot on; the
 -- measure is the slots still to look at. Assumes nothing.
 use native.Mathlib.Omega.{arith}
-use Rattle.row_theory.specs.Scan.{Looked, look_start, look_past_empty, look_past_state, look_past_mark, look_found}
-use Rattle.row_theory.specs.Scan.{look_nothing, look_busy, reached_long}
+use Rattle.row_theory.proofs.Scan.{Looked, look_start, look_past_empty, look_past_state, look_past_mark, look_found}
+use Rattle.row_theory.proofs.Scan.{look_nothing, look_busy, reached_long}
 use Rattle.row.proofs.victim_among.Statement.{statement}
 use Rattle.row.proofs.victim_among.Tie as tie
 

@@ -1,7 +1,7 @@
 -- `row::slots::leave_slot` meets its contract: the place read is the frame's slot. Assumes nothing.
 use native.Mathlib.Omega.{arith}
 use borrow.Author.Rules.{rules}
-use Rattle.row_theory.specs.LendingLaws.{leaving_inside, leaving}
+use Rattle.row_theory.proofs.LendingLaws.{leaving_inside, leaving}
 use Rattle.row.proofs.slots.leave_slot.Statement.{statement}
 use Rattle.row.proofs.slots.leave_slot.Tie as tie
 

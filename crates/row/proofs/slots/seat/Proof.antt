@@ -2,7 +2,7 @@
 -- nothing.
 use native.Mathlib.Omega.{arith}
 use borrow.Author.Rules.{rules}
-use Rattle.row_theory.specs.LendingLaws.{squeezed_inside, seat_squeezing, seat_storing}
+use Rattle.row_theory.proofs.LendingLaws.{squeezed_inside, seat_squeezing, seat_storing}
 use Rattle.row.proofs.slots.seat.Statement.{statement}
 use Rattle.row.proofs.slots.seat.Tie as tie
 

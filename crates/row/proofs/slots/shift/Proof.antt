@@ -1,8 +1,8 @@
 -- `row::slots::shift` meets its contract, event by event: what each asks of the slots it finds, and what the steps leave.
 -- Assumes nothing.
 use borrow.Author.Rules.{rules}
-use Rattle.row_theory.specs.ShiftLaws.{put_seatable, touch_once, touch_seats, drop_once, asks_as, leaves_as}
-use Rattle.row_theory.specs.ShiftLaws.{shifted_put, touched, shifted_start, shifted_end, dropped}
+use Rattle.row_theory.proofs.ShiftLaws.{put_seatable, touch_once, touch_seats, drop_once, asks_as, leaves_as}
+use Rattle.row_theory.proofs.ShiftLaws.{shifted_put, touched, shifted_start, shifted_end, dropped}
 use Rattle.row.proofs.slots.shift.Statement.{statement}
 use Rattle.row.proofs.slots.shift.Tie as tie
 

@@ -1,7 +1,7 @@
 -- `row::slots::squeeze` meets its contract. The invariant is `Packing`: the slots in the midst of the pass; the measure is
 -- the slots still to pass. Assumes nothing.
 use native.Mathlib.Omega.{arith}
-use Rattle.row_theory.specs.PackingLaws.{Packing, packing_start, pack_empty, pack_frame, packed}
+use Rattle.row_theory.proofs.PackingLaws.{Packing, packing_start, pack_empty, pack_frame, packed}
 use Rattle.row.proofs.slots.squeeze.Statement.{statement}
 use Rattle.row.proofs.slots.squeeze.Tie as tie
 

@@ -1,6 +1,6 @@
 -- `row::table::verdict` meets its contract: each return is one way through the order of refusals. Assumes nothing.
 use borrow.Author.Rules.{rules}
-use Rattle.row_theory.specs.VerdictLaws.{verdict_past, verdict_table, verdict_held, verdict_full, verdict_next}
+use Rattle.row_theory.proofs.VerdictLaws.{verdict_past, verdict_table, verdict_held, verdict_full, verdict_next}
 use Rattle.row.proofs.table.verdict.Statement.{statement}
 use Rattle.row.proofs.table.verdict.Tie as tie
 

@@ -1,6 +1,6 @@
 -- `row::testing::frame_sound` meets its contract: the frame's state decides. Assumes nothing.
 use native.Mathlib.Omega.{arith}
-use Rattle.row_theory.specs.TestSteps.{frame_out, frame_unknown, frame_there}
+use Rattle.row_theory.proofs.TestStepLaws.{frame_out, frame_unknown, frame_there}
 use Rattle.row.proofs.testing.frame_sound.Statement.{statement}
 use Rattle.row.proofs.testing.frame_sound.Tie as tie
 

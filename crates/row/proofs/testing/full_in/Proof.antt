@@ -4,7 +4,7 @@ use native.Mathlib.Omega.{arith}
 use borrow.Author.Rules.{rules}
 use lib.ListN.{get_or}
 use Rattle.rules.specs.Limits.{slots as slot_count}
-use Rattle.row_theory.specs.TestSteps.{FullTo, full_start, full_bit_small, full_next, full_end}
+use Rattle.row_theory.proofs.TestStepLaws.{FullTo, full_start, full_bit_small, full_next, full_end}
 use Rattle.row.proofs.testing.full_in.Statement.{statement}
 use Rattle.row.proofs.testing.full_in.Tie as tie
 

@@ -5,7 +5,7 @@ use borrow.Author.Rules.{rules}
 use lib.ListN.{get_or}
 use Rattle.rules.specs.Limits.{frames}
 use Rattle.row_theory.specs.StateLaws.{held_bit_small}
-use Rattle.row_theory.specs.TestSteps.{HeldTo, held_start, held_next, held_end}
+use Rattle.row_theory.proofs.TestStepLaws.{HeldTo, held_start, held_next, held_end}
 use Rattle.row.proofs.testing.held_in.Statement.{statement}
 use Rattle.row.proofs.testing.held_in.Tie as tie
 

@@ -1,7 +1,7 @@
 -- `row::testing::place_sound` meets its contract: a slot is read and compared, and whether there is a place picks. Assumes
 -- nothing.
 use borrow.Author.Rules.{rules}
-use Rattle.row_theory.specs.TestSteps.{place_tested}
+use Rattle.row_theory.proofs.TestStepLaws.{place_tested}
 use Rattle.row.proofs.testing.place_sound.Statement.{statement}
 use Rattle.row.proofs.testing.place_sound.Tie as tie
 

@@ -1,6 +1,6 @@
 -- `row::testing::room_sound` meets its contract. Assumes nothing.
 use native.Mathlib.Omega.{arith}
-use Rattle.row_theory.specs.TestSteps.{room_left, room_past, room_gap, room_full}
+use Rattle.row_theory.proofs.TestStepLaws.{room_left, room_past, room_gap, room_full}
 use Rattle.row.proofs.testing.room_sound.Statement.{statement}
 use Rattle.row.proofs.testing.room_sound.Tie as tie
 

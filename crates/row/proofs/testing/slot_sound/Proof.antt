@@ -1,6 +1,6 @@
 -- `row::testing::slot_sound` meets its contract: what the slot holds picks. Assumes nothing.
 use borrow.Author.Rules.{rules}
-use Rattle.row_theory.specs.TestSteps.{slot_tested}
+use Rattle.row_theory.proofs.TestStepLaws.{slot_tested}
 use Rattle.row.proofs.testing.slot_sound.Statement.{statement}
 use Rattle.row.proofs.testing.slot_sound.Tie as tie
 

@@ -1,6 +1,6 @@
 -- `row::testing::sound` meets its contract: its tables have their lengths, so the test is exact. Assumes nothing.
 use borrow.Author.Rules.{rules}
-use Rattle.row_theory.specs.TestLaws.{row_tested}
+use Rattle.row_theory.proofs.TestLaws.{row_tested}
 use Rattle.row.proofs.testing.sound.Statement.{statement}
 use Rattle.row.proofs.testing.sound.Tie as tie
 

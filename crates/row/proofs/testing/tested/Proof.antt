@@ -4,7 +4,7 @@ use mathlib.Core.Path.{sym, ◌∙◌}
 use borrow.Author.Tests.{leb-true, eqb-true, not-true, not-false}
 use Rattle.rules.specs.Limits
 use Rattle.rules.specs.Cases.{clash}
-use Rattle.row_theory.specs.TestParts.{fails, by_room}
+use Rattle.row_theory.proofs.TestPartLaws.{fails, by_room}
 use Rattle.row.proofs.testing.tested.Statement.{statement}
 use Rattle.row.proofs.testing.tested.Tie as tie
 

@@ -1,5 +1,5 @@
 -- Memory that passes the test of a row (RowTest) holds a tidy row, with the places of its slots.
-use Rattle.std.specs.Prelude.{ℕ, zero, suc, ◌-◌, ◌<◌, ◌≤◌, ◌≡◌, true, false, List, [], ◌∷◌, leb, ltb, eqb, length, get_or}
+use Rattle.std.specs.Prelude.{ℕ, zero, suc, ◌<◌, ◌≤◌, ◌≡◌, true, false, List, [], ◌∷◌, leb, ltb, eqb, length, get_or}
 use Rattle.std.proofs.Common.{not-suc-le-zero, le_of_suc-le-suc, arith, sym, ◌∙◌, ap, ext_get_or}
 use Rattle.std.proofs.Math.ListN.{get_or-eq_default}
 use borrow.Author.Tests.{eq-eqb, ne_eqb, eqb-true, eqb-false, lt-ltb, le-ltb, ltb-true, ltb-false, leb-true}
@@ -14,10 +14,11 @@ use Rattle.row_theory.specs.Promise.{Memory, row_in}
 use Rattle.row_theory.specs.RowTest.{nowhere, slot_sound, frame_sound, place_sound, room_sound}
 use Rattle.row_theory.specs.Counting.{times_there}
 use Rattle.row_theory.specs.StateLaws.{held_bit_absent}
-use Rattle.row_theory.specs.PlaceLaws.{places_in_length, places_in_at, slot_of_none}
-use Rattle.row_theory.specs.Tidy.{Tidy}
-use Rattle.row_theory.specs.Sums.{all_stand}
-use Rattle.row_theory.specs.TestParts.{Sized, Passed}
+use Rattle.row_theory.proofs.PlaceLaws.{places_in_length, places_in_at, slot_of_none}
+use Rattle.row_theory.proofs.Tidy.{Tidy}
+use Rattle.row_theory.proofs.Sums.{all_stand}
+use Rattle.row_theory.specs.TestParts.{Sized}
+use Rattle.row_theory.proofs.TestPartLaws.{Passed}
 
 -- a number that stands once has the place where it stands
 pub slot_of_is : (x : ℕ) (l : List ℕ) (i d : ℕ) → i < length l → get_or l i d ≡ x → times x l ≤ 1 → slot_of x l ≡ i

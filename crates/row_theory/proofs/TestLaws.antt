@@ -1,5 +1,5 @@
 -- The test of a row (RowTest) is exact: lent memory passes it exactly if a fresh row and calls give it.
-use Rattle.std.specs.Prelude.{ℕ, ◌-◌, ◌<◌, ◌≡◌, Bool, true, List, [], leb, ltb, eqb, length}
+use Rattle.std.specs.Prelude.{ℕ, ◌<◌, ◌≡◌, Bool, true, List, leb, ltb, eqb, length}
 use Rattle.std.proofs.Common.{arith, sym, ◌∙◌}
 use Rattle.std.proofs.Math.Path.{ap}
 use Rattle.std.proofs.Math.ListN.{get_or}
@@ -14,12 +14,13 @@ use Rattle.row_theory.specs.Slots.{empty, frames_in, slot_of}
 use Rattle.row_theory.specs.Promise.{Memory, row_in, Stands}
 use Rattle.row_theory.specs.RowTest.{nowhere, slot_sound, frame_sound, place_sound, room_sound, row_sound, RowTested}
 use Rattle.row_theory.specs.StateLaws.{held_bit_absent}
-use Rattle.row_theory.specs.PlaceLaws.{places_in_length, places_in_at, slot_of_inside, slot_of_there, slot_of_none}
-use Rattle.row_theory.specs.PromiseLaws.{ordered}
-use Rattle.row_theory.specs.Tidy.{Tidy, tidy}
-use Rattle.row_theory.specs.Rebuilt.{rebuilt}
-use Rattle.row_theory.specs.TestParts.{Sized, passed, passes_all}
-use Rattle.row_theory.specs.TestTidy.{held_some, sound_tidy, sound_index}
+use Rattle.row_theory.proofs.PlaceLaws.{places_in_length, places_in_at, slot_of_inside, slot_of_there, slot_of_none}
+use Rattle.row_theory.proofs.PromiseLaws.{ordered}
+use Rattle.row_theory.proofs.Tidy.{Tidy, tidy}
+use Rattle.row_theory.proofs.Rebuilt.{rebuilt}
+use Rattle.row_theory.specs.TestParts.{Sized}
+use Rattle.row_theory.proofs.TestPartLaws.{passed, passes_all}
+use Rattle.row_theory.proofs.TestTidy.{held_some, sound_tidy, sound_index}
 
 -- X5: what passes the test is what a fresh row and calls give
 pub sound_stands : {m : Memory} → Sized m → row_sound m ≡ true → Stands m

@@ -7,9 +7,9 @@ use Rattle.rules.specs.Lists.{times}
 use Rattle.row_theory.specs.Slots.{empty, frames_in, squeezed_front, squeezed, places_in}
 use Rattle.row_theory.specs.Counting.{times_set, times_there}
 use Rattle.row_theory.specs.SlotLaws.{frames_in_frame, frames_in_empty, squeezed_front_rest}
-use Rattle.row_theory.specs.PlaceLaws.{places_out, places_in_law, places_same}
+use Rattle.row_theory.proofs.PlaceLaws.{places_out, places_in_law, places_same}
 use Rattle.row_theory.specs.Lending.{SqueezedNow}
-use Rattle.row_theory.specs.Packing.{packing, pass_empty, pass_frame, old_slot, gap_open}
+use Rattle.row_theory.proofs.Packing.{packing, pass_empty, pass_frame, old_slot, gap_open}
 
 -- what the pass keeps
 pub record Packing (row₀ row places : List ℕ) (to i : ℕ) : Type 0 where

@@ -17,11 +17,11 @@ use Rattle.row_theory.specs.Row.{Row, empty_row, moved, after}
 use Rattle.row_theory.specs.Runs.{row_after, Reached}
 use Rattle.row_theory.specs.Holding.{squeeze_holding, vacate_holding}
 use Rattle.row_theory.specs.StateLaws.{bit_before, bit_later}
-use Rattle.row_theory.specs.GoodStates.{held_then}
-use Rattle.row_theory.specs.SoundRow.{after_accepted, after_refused, ready}
+use Rattle.row_theory.proofs.GoodStates.{held_then}
+use Rattle.row_theory.proofs.SoundRow.{after_accepted, after_refused, ready}
 use Rattle.row_theory.specs.RecentLaws.{fewer, length_fewer}
 use Rattle.row_theory.specs.StepLaws.{Ready}
-use Rattle.row_theory.specs.PromiseLaws.{Ordered, ordered}
+use Rattle.row_theory.proofs.PromiseLaws.{Ordered, ordered}
 use Rattle.row_theory.specs.declared.Event.{Event}
 use Rattle.row_theory.specs.declared.Event.TheVariants.{Put, Touch, Start, End, Drop}
 

@@ -11,9 +11,9 @@ use Rattle.row_theory.specs.Slots.{roomy_slots, roomy_front, examined_then}
 use Rattle.row_theory.specs.SlotLaws.{frames_in_squeezed, times_frames_in}
 use Rattle.row_theory.specs.SlotLaws.{squeezed_front_rest, squeezed_length, squeezed_clear}
 use Rattle.row_theory.specs.StateLaws.{held_bit_small}
-use Rattle.row_theory.specs.PlaceLaws.{places_in_at, slot_of_inside, slot_of_there, emptied_place, places_out, places_in_law}
+use Rattle.row_theory.proofs.PlaceLaws.{places_in_at, slot_of_inside, slot_of_there, emptied_place, places_out, places_in_law}
 use Rattle.row_theory.specs.Lending.{Indexed, Seatable, SeatedNow, LeftSlot, SqueezedNow, TakenSlot}
-use Rattle.row_theory.specs.PromiseLaws.{Ordered}
+use Rattle.row_theory.proofs.PromiseLaws.{Ordered}
 use Rattle.row_theory.specs.Row.{Row}
 
 -- W4: emptying a frame's slot: what it reads, and what it leaves

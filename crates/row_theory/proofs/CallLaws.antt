@@ -5,10 +5,10 @@ use Rattle.rules.specs.Limits.{slots}
 use Rattle.row_theory.specs.States.{absent, busy, state_of, held_bit, held_in, verdict_of}
 use Rattle.row_theory.specs.StateLaws.{held_bit_absent, held_bit_small, held_in_set}
 use Rattle.row_theory.specs.Promise.{Memory, memory, row_in, Stands, asked, Answered}
-use Rattle.row_theory.specs.PromiseLaws.{ordered, answered}
-use Rattle.row_theory.specs.VerdictLaws.{refused_verdict, Accepting, accepted_verdict}
+use Rattle.row_theory.proofs.PromiseLaws.{ordered, answered}
+use Rattle.row_theory.proofs.VerdictLaws.{refused_verdict, Accepting, accepted_verdict}
 use Rattle.row_theory.specs.Lending.{Shiftable, Shifted}
-use Rattle.row_theory.specs.LendingLaws.{indexed}
+use Rattle.row_theory.proofs.LendingLaws.{indexed}
 use Rattle.row_theory.specs.declared.Event.{Event}
 use Rattle.row_theory.specs.declared.Reply.TheVariants.{Done, Refused}
 

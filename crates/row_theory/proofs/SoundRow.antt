@@ -4,7 +4,7 @@ use Rattle.std.proofs.Common.{zero-le, arith, ◌∙◌, eqb-true}
 use Rattle.std.proofs.Math.Nat.{le_refl}
 use Rattle.std.proofs.Math.Path.{refl, sym}
 use Rattle.std.proofs.lemmas.Bool.{eqb-false}
-use Rattle.rules.specs.Limits.{frames, slots, held}
+use Rattle.rules.specs.Limits.{frames, slots}
 use Rattle.rules.specs.Lists.{times}
 use Rattle.rules.specs.Cases.{by_cases}
 use Rattle.row_theory.specs.States.{Call, absent, state_of, held_bit, held_in, accepts, states_then, fresh_states}
@@ -17,9 +17,9 @@ use Rattle.row_theory.specs.Holding.{Holding, refits}
 use Rattle.row_theory.specs.RecentLaws.{recent_then, times_then, times_then_other, length_then, Later, recent_then_law}
 use Rattle.row_theory.specs.RecentLaws.{recent_same}
 use Rattle.row_theory.specs.StepLaws.{Ready, slot_step}
-use Rattle.row_theory.specs.GoodStates.{GoodStates, good_after, states_refused, state_same, state_other, call_effect}
-use Rattle.row_theory.specs.GoodStates.{held_then}
-use Rattle.row_theory.specs.Moments.{later_accepted, moment_refused}
+use Rattle.row_theory.proofs.GoodStates.{GoodStates, good_after, states_refused, state_same, state_other, call_effect}
+use Rattle.row_theory.proofs.GoodStates.{held_then}
+use Rattle.row_theory.proofs.Moments.{later_accepted, moment_refused}
 
 -- a row that agrees with these states and these moments
 pub record Sound (row : Row) (states : List ℕ) (moment : ℕ → ℕ) : Type 0 where

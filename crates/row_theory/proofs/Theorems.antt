@@ -12,11 +12,11 @@ use Rattle.row_theory.specs.Row.{reply_of, examined_of, any_frame, victim_among,
 use Rattle.row_theory.specs.History.{states_after, moment_after, moves_after, MayGo, VictimIs, VictimSays}
 use Rattle.row_theory.specs.Runs.{row_after, examined_after, Recent, PackedRow, row_from}
 use Rattle.row_theory.specs.SlotLaws.{times_frames_in}
-use Rattle.row_theory.specs.GoodStates.{good_after, busy_held}
-use Rattle.row_theory.specs.SoundRow.{sound_after}
-use Rattle.row_theory.specs.Bound.{paid_after}
-use Rattle.row_theory.specs.SqueezeLaws.{packed_after}
-use Rattle.row_theory.specs.VictimLaws.{oldest_now, oldest_victim, oldest_no_victim}
+use Rattle.row_theory.proofs.GoodStates.{good_after, busy_held}
+use Rattle.row_theory.proofs.SoundRow.{sound_after}
+use Rattle.row_theory.proofs.Bound.{paid_after}
+use Rattle.row_theory.proofs.SqueezeLaws.{packed_after}
+use Rattle.row_theory.proofs.VictimLaws.{oldest_now, oldest_victim, oldest_no_victim}
 use Rattle.row_theory.specs.declared.Victim.TheVariants.{Given}
 
 -- W6: the table in the rules' own numbers, where 0 is absent, 1 idle and 2 busy; and the numbers that stand outside it (R20,

@@ -13,9 +13,9 @@ use Rattle.row_theory.specs.Row.{Row, reply_number, reply_place}
 use Rattle.row_theory.specs.History.{states_after}
 use Rattle.row_theory.specs.Runs.{row_after}
 use Rattle.row_theory.specs.Promise.{Memory, row_in, Stands, Answered, FreshRow, OldestIdle, state_in}
-use Rattle.row_theory.specs.PromiseLaws.{number_of_reply, place_of_reply, same_memory}
-use Rattle.row_theory.specs.GoodStates.{good_after}
-use Rattle.row_theory.specs.SoundRow.{sound_after, after_refused}
+use Rattle.row_theory.proofs.PromiseLaws.{number_of_reply, place_of_reply, same_memory}
+use Rattle.row_theory.proofs.GoodStates.{good_after}
+use Rattle.row_theory.proofs.SoundRow.{sound_after, after_refused}
 use Rattle.row_theory.specs.declared.Reply.{Reply}
 use Rattle.row_theory.specs.declared.Victim.{Victim}
 

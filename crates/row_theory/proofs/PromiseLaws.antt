@@ -8,9 +8,9 @@ use Rattle.row_theory.specs.Row.{Row, empty_row, after, reply_of, reply_number, 
 use Rattle.row_theory.specs.History.{states_after, moment_after}
 use Rattle.row_theory.specs.Runs.{row_after, Reached}
 use Rattle.row_theory.specs.Promise.{Memory, row_in, Stands, ReplySays, Answered, FreshRow, OldestIdle}
-use Rattle.row_theory.specs.GoodStates.{GoodStates, good_after}
-use Rattle.row_theory.specs.SoundRow.{Sound, sound_after}
-use Rattle.row_theory.specs.Theorems.{victim_says}
+use Rattle.row_theory.proofs.GoodStates.{GoodStates, good_after}
+use Rattle.row_theory.proofs.SoundRow.{Sound, sound_after}
+use Rattle.row_theory.proofs.Theorems.{victim_says}
 use Rattle.row_theory.specs.declared.Reply.{Reply}
 use Rattle.row_theory.specs.declared.Victim.{Victim}
 

@@ -13,8 +13,8 @@ use Rattle.row_theory.specs.History.{states_after, moves_last, moves_after}
 use Rattle.row_theory.specs.Runs.{row_after, examined_after}
 use Rattle.row_theory.specs.Holding.{spare}
 use Rattle.row_theory.specs.StepLaws.{spare_then, slot_step, front_stays, front_falls}
-use Rattle.row_theory.specs.GoodStates.{good_after}
-use Rattle.row_theory.specs.SoundRow.{sound_after, ready, after_accepted, after_refused}
+use Rattle.row_theory.proofs.GoodStates.{good_after}
+use Rattle.row_theory.proofs.SoundRow.{sound_after, ready, after_accepted, after_refused}
 
 -- what a history has paid: the bound, and what the front still owes
 pub record Paid (examined moves front : ℕ) : Type 0 where

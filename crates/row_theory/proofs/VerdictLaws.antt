@@ -9,9 +9,9 @@ use Rattle.row_theory.specs.States.{states_then}
 use Rattle.row_theory.specs.Slots.{slots_then, front_then, examined_then}
 use Rattle.row_theory.specs.Row.{Row, moved, after, reply_of}
 use Rattle.row_theory.specs.Promise.{row_with, asked}
-use Rattle.row_theory.specs.SoundRow.{ready, after_accepted, after_refused}
+use Rattle.row_theory.proofs.SoundRow.{ready, after_accepted, after_refused}
 use Rattle.row_theory.specs.StepLaws.{Ready}
-use Rattle.row_theory.specs.PromiseLaws.{Ordered}
+use Rattle.row_theory.proofs.PromiseLaws.{Ordered}
 use Rattle.row_theory.specs.StateLaws.{put_absent}
 use Rattle.row_theory.specs.declared.Event.{Event}
 use Rattle.row_theory.specs.declared.Reply.TheVariants.{Done, Refused}

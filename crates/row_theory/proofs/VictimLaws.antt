@@ -11,10 +11,10 @@ use Rattle.row_theory.specs.Row.{idle_among}
 use Rattle.row_theory.specs.History.{states_after, moment_after, MayGo, VictimIs, VictimOf}
 use Rattle.row_theory.specs.Runs.{row_after}
 use Rattle.row_theory.specs.SlotLaws.{times_past}
-use Rattle.row_theory.specs.SoundRow.{sound_after}
+use Rattle.row_theory.proofs.SoundRow.{sound_after}
 use Rattle.row_theory.specs.declared.Victim.{Victim}
 use Rattle.row_theory.specs.declared.Victim.TheVariants.{Given, Refused}
-use Rattle.row_theory.specs.Oldest.{EarliestPassing, oldest_frames_in, oldest_none, oldest_chosen}
+use Rattle.row_theory.proofs.Oldest.{EarliestPassing, oldest_frames_in, oldest_none, oldest_chosen}
 
 -- an idle frame stands in the slots
 idle_there : (history : List Call) (frame : ℕ) → state_of (states_after history) frame ≡ idle →

@@ -12,7 +12,7 @@ use Rattle.row_theory.specs.States.{held_bit, held_in}
 use Rattle.row_theory.specs.Slots.{frames_in}
 use Rattle.row_theory.specs.Counting.{times_cons}
 use Rattle.row_theory.specs.SlotLaws.{frames_in_frame, frames_in_empty}
-use Rattle.row_theory.specs.TestSteps.{held_none, held_take}
+use Rattle.row_theory.proofs.TestStepLaws.{held_none, held_take}
 
 -- the sum of the first so many
 unfoldable sum_to : (ℕ → ℕ) → ℕ → ℕ

@@ -16,7 +16,7 @@ use Rattle.row_theory.specs.Slots.{emptied, roomy_slots, roomy_front, vacated, s
 use Rattle.row_theory.specs.Row.{Row, moved, after}
 use Rattle.row_theory.specs.Runs.{row_after, Reached}
 use Rattle.row_theory.specs.Promise.{row_with, asked}
-use Rattle.row_theory.specs.SoundRow.{after_accepted}
+use Rattle.row_theory.proofs.SoundRow.{after_accepted}
 use Rattle.row_theory.specs.declared.Event.{Event}
 use Rattle.row_theory.specs.declared.Event.TheVariants.{Put, Start, Drop}
 

@@ -14,11 +14,11 @@ use Rattle.row_theory.specs.Runs.{Reached}
 use Rattle.row_theory.specs.Promise.{row_with, asked}
 use Rattle.row_theory.specs.Counting.{times_set}
 use Rattle.row_theory.specs.StateLaws.{held_in_set}
-use Rattle.row_theory.specs.PlaceLaws.{emptied_place, slot_of_new}
-use Rattle.row_theory.specs.Tidy.{Tidy}
+use Rattle.row_theory.proofs.PlaceLaws.{emptied_place, slot_of_new}
+use Rattle.row_theory.proofs.Tidy.{Tidy}
 use Rattle.row_theory.specs.declared.Event.TheVariants.{Put, Start, Drop}
-use Rattle.row_theory.specs.RebuildCalls.{set_back, reached_then, put_takes, start_takes, drop_takes}
-use Rattle.row_theory.specs.RebuildCalls.{put_gives, start_gives, drop_gives}
+use Rattle.row_theory.proofs.RebuildCalls.{set_back, reached_then, put_takes, start_takes, drop_takes}
+use Rattle.row_theory.proofs.RebuildCalls.{put_gives, start_gives, drop_gives}
 
 -- an absent frame, where not all are held
 record Spare (states : List ℕ) : Type 0 where

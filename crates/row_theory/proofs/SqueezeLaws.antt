@@ -14,9 +14,9 @@ use Rattle.row_theory.specs.SlotLaws.{frames_in_frame, frames_in_empty, frames_i
 use Rattle.row_theory.specs.RecentLaws.{fewer, recent_then, length_fewer}
 use Rattle.row_theory.specs.Holding.{vacate_holding}
 use Rattle.row_theory.specs.StepLaws.{Ready, slot_step}
-use Rattle.row_theory.specs.GoodStates.{good_after}
-use Rattle.row_theory.specs.SoundRow.{sound_after, ready, after_accepted}
-use Rattle.row_theory.specs.Bound.{examined_rule}
+use Rattle.row_theory.proofs.GoodStates.{good_after}
+use Rattle.row_theory.proofs.SoundRow.{sound_after, ready, after_accepted}
+use Rattle.row_theory.proofs.Bound.{examined_rule}
 use Rattle.row_theory.specs.declared.Event.{Event}
 
 -- the front that a squeezing call leaves, and the frames it leaves

@@ -9,9 +9,9 @@ use Rattle.rules.specs.Cases.{by_cases}
 use Rattle.row_theory.specs.States.{idle}
 use Rattle.row_theory.specs.Slots.{Clear, empty, passes, oldest}
 use Rattle.row_theory.specs.Row.{Row, any_frame, givable, has_mark, idle_among, victim_among}
-use Rattle.row_theory.specs.Oldest.{oldest_behind, oldest_here, oldest_skip, oldest_same, passes_empty}
+use Rattle.row_theory.proofs.Oldest.{oldest_behind, oldest_here, oldest_skip, oldest_same, passes_empty}
 use Rattle.row_theory.specs.Promise.{row_with, OldestIdle}
-use Rattle.row_theory.specs.PromiseLaws.{ordered, oldest_idle}
+use Rattle.row_theory.proofs.PromiseLaws.{ordered, oldest_idle}
 use Rattle.row_theory.specs.Runs.{Reached}
 use Rattle.row_theory.specs.declared.Victim.{Victim}
 use Rattle.row_theory.specs.declared.Victim.TheVariants.{Given, Refused}

@@ -18,11 +18,11 @@ use Rattle.row_theory.specs.Row.{Row, empty_row}
 use Rattle.row_theory.specs.Runs.{row_after, Reached}
 use Rattle.row_theory.specs.Promise.{row_with, asked}
 use Rattle.row_theory.specs.Counting.{times_there}
-use Rattle.row_theory.specs.Tidy.{Tidy}
+use Rattle.row_theory.proofs.Tidy.{Tidy}
 use Rattle.row_theory.specs.declared.Event.TheVariants.{Put, Start}
-use Rattle.row_theory.specs.RebuildCalls.{reached_then}
-use Rattle.row_theory.specs.RebuildSteps.{Calm, bit_none, calm_idle, calm_stored, before_start, started}
-use Rattle.row_theory.specs.RebuildSteps.{before_put, placed, before_gap, gapped}
+use Rattle.row_theory.proofs.RebuildCalls.{reached_then}
+use Rattle.row_theory.proofs.RebuildSteps.{Calm, bit_none, calm_idle, calm_stored, before_start, started}
+use Rattle.row_theory.proofs.RebuildSteps.{before_put, placed, before_gap, gapped}
 
 -- a tidy row whose front is past the last slot is a fresh one
 times_empty : (n frame : ℕ) → frame < frames → times frame (replicate n empty) ≡ 0
