@@ -11,15 +11,9 @@ pub mod Reads
 pub mod Tests
 -- What the promises give their users, and whoever drives a session:
 pub mod Promises
-pub mod Demands
 pub mod Driving
--- Laws: which references are accepted, the session over a reference, the promises answer by answer, the tests.
+-- Laws that proofs/ builds on: which references are accepted, what a start gives, the sums of tables, the tests.
 pub mod ReferLaws
-pub mod SessionLaws
 pub mod StartLaws
-pub mod ReferAnswers
-pub mod ReadLaws
 pub mod TotalLaws
 pub mod TestLaws
-pub mod SoundLaws
-pub mod CountableLaws

@@ -15,7 +15,7 @@ use Rattle.session.specs.AnyMemory.{as_run, after_reference, hits_in, misses_in}
 use Rattle.session.specs.Tests.{total, adds_up, countable}
 use Rattle.session.specs.TotalLaws.{total_one_more}
 use Rattle.session.specs.TestLaws.{Fitting, fits_says, fits_after}
-use Rattle.session.specs.SoundLaws.{countable_fits}
+use Rattle.session.proofs.SoundLaws.{countable_fits}
 
 total_grows : (table : List ℕ) (m n : ℕ) → m ≤ n → total table m ≤ total table n
 unfolding total

@@ -16,7 +16,7 @@ use Rattle.session.specs.Memory.{Given}
 use Rattle.session.specs.AnyMemory.{as_run, depth_in, advanced, lent_as, after_reference}
 use Rattle.session.specs.Answers.{Referring, depth_as}
 use Rattle.session.specs.ReferLaws.{three_ways, accepted_full, accepted_bad}
-use Rattle.session.specs.SessionLaws.{accepted_depth, accepted_given}
+use Rattle.session.proofs.SessionLaws.{accepted_depth, accepted_given}
 
 module _ {policy k : ℕ} {calls : List ℕ} {m : Lent} (g : Given policy k calls m) (page : ℕ) where
   refer_answer : depth_as (reference_answer m.value.references page) (depth_in m page)
