@@ -17,8 +17,8 @@ use Rattle.session.specs.AnyMemory.{depth_in, after_reference, hits_in, misses_i
 use Rattle.session.specs.Tests.{fits, countable, sound}
 use Rattle.session.specs.StartLaws.{start_begun, start_gives}
 use Rattle.session.specs.TestLaws.{value_fits, value_countable, fits_after}
-use Rattle.session.specs.SoundLaws.{given_sound, sound_countable, countable_fits}
-use Rattle.session.specs.CountableLaws.{countable_after}
+use Rattle.session.proofs.SoundLaws.{given_sound, sound_countable, countable_fits}
+use Rattle.session.proofs.CountableLaws.{countable_after}
 use Rattle.exports.specs.Session.{start_lent, StartTold, ReferTold, HitsTold, MissesTold}
 use Rattle.exports.specs.Told.{told_with}
 

@@ -18,7 +18,7 @@ use Rattle.session.specs.History.{start_answer, reference_answer}
 use Rattle.session.specs.Lent.{Lent}
 use Rattle.session.specs.AnyMemory.{depth_in, after_reference}
 use Rattle.session.specs.Answers.{started_as, fresh, depth_as, Starting, Referring}
-use Rattle.session.specs.ReferAnswers.{refers}
+use Rattle.session.proofs.ReferAnswers.{refers}
 
 module _ {policy k : ℕ} where
   pub count_narrowed : {n : ℕ} {trace before after : List ℕ} {r : Answer} → n ≡ min policy 255 → Counted trace n k before after r

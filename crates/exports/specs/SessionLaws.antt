@@ -23,7 +23,7 @@ use Rattle.session.specs.Tests.{fits, countable}
 use Rattle.session.specs.TestLaws.{value_fits, value_countable}
 use Rattle.session.specs.Answers.{started_as, fresh, depth_as, Starting, Referring}
 use Rattle.session.specs.Reads.{asked_as, ListRead, ReferencesRead, HitsRead, MissesRead}
-use Rattle.session.specs.ReferAnswers.{policy_stays}
+use Rattle.session.proofs.ReferAnswers.{policy_stays}
 use Rattle.exports.specs.Lent.{session_of}
 use Rattle.exports.specs.Told.{told_with}
 use Rattle.exports.specs.Trace.{page_number}

@@ -1,13 +1,9 @@
 -- Carrying under LRU: what is carried always stays at the next place, so the first entry goes before all and the old one is
 -- taken out.
-use Prim.Native.Nat.{ℕ, zero, suc, ◌+◌, ◌-◌, ◌≤◌, ◌<◌}
-use native.Mathlib.Omega.{arith}
-use native.Mathlib.Numerals.{add-one}
-use mathlib.Core.Path.{◌≡◌, refl, sym, ◌∙◌, ap}
-use mathlib.Core.List.{List, [], ◌∷◌, ◌++◌, append-nil}
-use lib.Dec.{eqb}
-use lib.ListN.{length, take, drop, get_or, length-drop, length-append, get_or-eq_default, drop_of_length-le}
-use lib.Seq.{take_all, length-take-le}
+use Rattle.std.proofs.Common.{ℕ, zero, suc, ◌+◌, ◌-◌, ◌≤◌, ◌<◌, arith, add-one, ◌≡◌, refl, sym, ◌∙◌, ap, List, [], ◌∷◌, ◌++◌}
+use Rattle.std.proofs.Common.{append-nil, eqb, length, take, drop, get_or, length-drop, length-append, drop_of_length-le}
+use Rattle.std.proofs.Common.{take_all, length-take-le}
+use Rattle.std.proofs.Math.ListN.{get_or-eq_default}
 use Rattle.rules.specs.Cases.{by_cases}
 use Rattle.theory.specs.OnePass.{carry, depth, depth_from}
 use Rattle.kept.specs.Entries.{always}

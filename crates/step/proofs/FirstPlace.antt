@@ -1,16 +1,10 @@
 -- Place 1 and what follows it, over plain lists: the new entry stands first, and the old first entry is carried down the rest.
-use Prim.Native.Nat.{ℕ, zero, suc, ◌+◌, ◌-◌, ◌≤◌, ◌<◌}
-use native.Mathlib.Omega.{arith}
-use native.Mathlib.Numerals.{add-one}
-use mathlib.Core.Bool.{Bool, true, false, cond}
-use mathlib.Core.Path.{◌≡◌, refl, sym, ◌∙◌, ap}
-use mathlib.Core.List.{List, [], ◌∷◌, ◌++◌, append-nil}
-use lib.Dec.{eqb}
-use lib.ListN.{length, take, drop, get_or, set, get_or-eq_default, drop_of_length-le}
-use lib.Seq.{take-length, drop-length, take_all}
-use borrow.Author.Tests.{eq-eqb, ne_eqb, eqb-true}
-use borrow.Rule.Slice.PartMut.{put_mid, mid_of, post_of}
-use Rattle.theory.specs.Priority.{Priority, higher, lower}
+use Rattle.std.proofs.Common.{ℕ, ◌+◌, ◌-◌, ◌≤◌, ◌<◌, arith, ◌≡◌, refl, sym, ◌∙◌, List, [], ◌∷◌, append-nil, eqb, length, get_or}
+use Rattle.std.proofs.Common.{set, eq-eqb, ne_eqb}
+use Rattle.std.proofs.Math.ListN.{get_or-eq_default}
+use Rattle.std.proofs.Math.Seq.{take-length, drop-length}
+use borrow.Rule.Slice.PartMut.{put_mid, mid_of}
+use Rattle.theory.specs.Priority.{Priority}
 use Rattle.theory.specs.OnePass.{carry, depth, depth_from}
 use Rattle.kept.specs.Entries.{place_entry, always}
 use Rattle.step.specs.EntryLengths.{depth_zero, depth_later, carry_length}

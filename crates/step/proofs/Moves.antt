@@ -1,11 +1,9 @@
 -- Moving the first places of a list one place down, over plain lists.
-use Prim.Native.Nat.{ℕ, zero, suc, ◌+◌, ◌-◌, ◌≤◌, ◌<◌}
-use native.Mathlib.Omega.{arith}
-use native.Mathlib.Numerals.{add-one}
-use mathlib.Core.Path.{◌≡◌, refl, sym, ◌∙◌}
-use mathlib.Core.List.{List, [], ◌∷◌, ◌++◌, append_assoc, append-nil}
-use lib.ListN.{length, take, drop, get_or, set, length-set, get_or-append, take-append-drop}
-use lib.Seq.{take-suc, drop-cons, set_at, get_or-take, length-take-le}
+use Rattle.std.proofs.Common.{ℕ, zero, suc, ◌+◌, ◌-◌, ◌≤◌, ◌<◌, arith, add-one, ◌≡◌, refl, sym, ◌∙◌, List, [], ◌∷◌, ◌++◌}
+use Rattle.std.proofs.Common.{append_assoc, append-nil, length, take, drop, get_or, set, length-set, take-append-drop, take-suc}
+use Rattle.std.proofs.Common.{drop-cons, get_or-take, length-take-le}
+use Rattle.std.proofs.Math.ListN.{get_or-append}
+use Rattle.std.proofs.lemmas.List.{set_at}
 
 -- the places from i to `to` have moved; x at place i is still to be written over
 pub record Moving (before : List ℕ) (to i : ℕ) (now : List ℕ) : Type 0 where

@@ -1,13 +1,6 @@
 -- Looking for an entry, over plain lists: the places that do not have it, and the first that does.
-use Prim.Native.Nat.{ℕ, zero, suc, ◌+◌, ◌-◌, ◌≤◌, ◌<◌}
-use native.Mathlib.Omega.{arith}
-use mathlib.Core.Bool.{Bool, true, false, ◌||◌}
-use mathlib.Core.Path.{◌≡◌, refl, sym}
-use mathlib.Core.List.{List, [], ◌∷◌}
-use lib.Dec.{eqb, ltb}
-use lib.ListN.{length, get_or}
-use borrow.Author.Count.{below_more}
-use borrow.Author.Tests.{eq-eqb, ne_eqb, ltb-true, ltb-false}
+use Rattle.std.proofs.Common.{ℕ, zero, suc, ◌+◌, ◌-◌, ◌≤◌, ◌<◌, arith, Bool, true, false, ◌||◌, ◌≡◌, refl, sym, List, [], ◌∷◌}
+use Rattle.std.proofs.Common.{eqb, ltb, length, get_or, below_more, eq-eqb, ne_eqb, ltb-true, ltb-false}
 use Rattle.rules.specs.Cases.{by_cases, clash}
 use Rattle.theory.specs.OnePass.{depth, depth_from}
 use Rattle.step.specs.Shifting.{Free, free_of}

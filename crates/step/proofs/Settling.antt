@@ -1,14 +1,10 @@
 -- The part in use comes back, and what is left over is put behind it: together that is the whole step.
-use Prim.Native.Nat.{ℕ, suc, ◌+◌, ◌≤◌, ◌<◌, min, max}
-use native.Mathlib.Omega.{arith}
-use native.Mathlib.Numerals.{add-one}
-use mathlib.Core.Bool.{true, false}
-use mathlib.Core.Path.{◌≡◌, refl, sym, ◌∙◌, ap}
-use mathlib.Core.List.{List, [], ◌∷◌, ◌++◌, append_assoc}
-use lib.Dec.{eqb, ltb, leb}
-use lib.ListN.{length, take, drop, get_or, set, length-take, length-drop, length-append}
-use lib.Seq.{take_all, take-suc, drop-cons, set_at, length-take-le}
-use borrow.Author.Tests.{eq-eqb, ne_eqb, eqb-true, eqb-false, lt-ltb, ltb-true, ltb-false, leb-true, leb-false}
+use Rattle.std.proofs.Common.{ℕ, suc, ◌+◌, ◌≤◌, ◌<◌, min, max, arith, add-one, true, false, ◌≡◌, refl, sym, ◌∙◌, ap, List, []}
+use Rattle.std.proofs.Common.{◌∷◌, ◌++◌, append_assoc, eqb, ltb, leb, length, take, drop, get_or, set, length-take, length-drop}
+use Rattle.std.proofs.Common.{length-append, take_all, take-suc, drop-cons, length-take-le, eq-eqb, ne_eqb, eqb-true, lt-ltb}
+use Rattle.std.proofs.Common.{ltb-true, ltb-false, leb-true, leb-false}
+use Rattle.std.proofs.lemmas.List.{set_at}
+use Rattle.std.proofs.lemmas.Bool.{eqb-false}
 use Rattle.theory.specs.Priority.{Priority}
 use Rattle.rules.specs.Cases.{by_cases}
 use Rattle.kept.specs.Entries.{place_entry}

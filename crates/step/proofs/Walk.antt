@@ -1,14 +1,9 @@
 -- The carrying loop over plain lists: what is written so far, followed by the carry of what is left, is the whole carry.
-use Prim.Native.Nat.{ℕ, suc, ◌+◌, ◌≤◌, ◌<◌}
-use native.Mathlib.Omega.{arith}
-use native.Mathlib.Numerals.{add-one}
-use mathlib.Core.Bool.{true, false}
-use mathlib.Core.Path.{◌≡◌, refl, sym, ◌∙◌}
-use mathlib.Core.List.{List, [], ◌∷◌, ◌++◌, append_assoc, append-nil}
-use lib.Dec.{eqb}
-use lib.ListN.{length, drop, get_or, set, length-append, length-drop, length-set, get_or-eq_default, drop_of_length-le}
-use lib.Seq.{drop-cons, take_all, take_at, set_at, get_or_at}
-use borrow.Author.Tests.{eq-eqb, ne_eqb}
+use Rattle.std.proofs.Common.{ℕ, suc, ◌+◌, ◌≤◌, ◌<◌, arith, add-one, true, false, ◌≡◌, refl, sym, ◌∙◌, List, [], ◌∷◌, ◌++◌}
+use Rattle.std.proofs.Common.{append_assoc, append-nil, eqb, length, drop, get_or, set, length-append, length-drop, length-set}
+use Rattle.std.proofs.Common.{drop_of_length-le, drop-cons, take_all, take_at, eq-eqb, ne_eqb}
+use Rattle.std.proofs.Math.ListN.{get_or-eq_default}
+use Rattle.std.proofs.lemmas.List.{set_at, get_or_at}
 use Rattle.theory.specs.Priority.{Priority, higher, lower}
 use Rattle.theory.specs.OnePass.{carry, depth, depth_from}
 use Rattle.rules.specs.Cases.{clash}

@@ -1,6 +1,6 @@
 -- Depths and lengths of a list with an entry carried or placed: one entry more than before exactly where the old one is missed.
-use Rattle.std.specs.Prelude.{ℕ, zero, suc, ◌+◌, ◌≤◌, min, max, true, false, cond, ◌≡◌, refl, List, [], ◌∷◌, eqb, length, take}
-use Rattle.std.proofs.Common.{arith, sym, ◌∙◌, length-take, eqb-true}
+use Rattle.std.specs.Prelude.{ℕ, suc, ◌+◌, ◌≤◌, min, max, ◌≡◌, refl, List, [], ◌∷◌, eqb, length, take}
+use Rattle.std.proofs.Common.{arith, length-take, eqb-true}
 use Rattle.std.proofs.lemmas.Bool.{eqb-false}
 use Rattle.rules.specs.Cases.{by_cases}
 use Rattle.theory.specs.Priority.{Priority, lower}

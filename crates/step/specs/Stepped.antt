@@ -1,5 +1,6 @@
 -- What a list step promises, for any memory: the places in use after it, everything behind them, and the depth.
-use Rattle.std.specs.Prelude.{ℕ, suc, min, max, Bool, true, false, cond, ◌&&◌, ◌≡◌, List, ◌++◌, ltb, eqb, length, take, drop, get_or, set}
+use Rattle.std.specs.Prelude.{ℕ, suc, min, max, Bool, true, false, cond, ◌&&◌, ◌≡◌, List, ◌++◌, ltb, eqb, length, take, drop}
+use Rattle.std.specs.Prelude.{get_or, set}
 use Rattle.theory.specs.Priority.{Priority, higher, lower}
 use Rattle.theory.specs.OnePass.{carry, depth}
 use Rattle.kept.specs.Entries.{place_entry, larger}

@@ -1,7 +1,7 @@
 -- A law for each return.
 use native.Mathlib.Omega.{arith}
 use borrow.Author.Rules.{rules}
-use Rattle.session.specs.ReferAnswers.{refer_full, refer_bad, refer_done}
+use Rattle.session.proofs.ReferAnswers.{refer_full, refer_bad, refer_done}
 use Rattle.session.proofs.refer.Statement.{statement}
 use Rattle.session.proofs.refer.Tie as tie
 

@@ -1,6 +1,6 @@
 -- Each return is the answer of its case.
 use borrow.Author.Rules.{rules}
-use Rattle.session.specs.ReadLaws.{hits_read, low_refused, high_refused, within_answered}
+use Rattle.session.proofs.ReadLaws.{hits_read, low_refused, high_refused, within_answered}
 use Rattle.session.proofs.reads.hits.Statement.{statement}
 use Rattle.session.proofs.reads.hits.Tie as tie
 

@@ -1,6 +1,6 @@
 -- A law for each return.
 use borrow.Author.Rules.{rules}
-use Rattle.session.specs.ReadLaws.{list_read}
+use Rattle.session.proofs.ReadLaws.{list_read}
 use Rattle.session.proofs.reads.list.Statement.{statement}
 use Rattle.session.proofs.reads.list.Tie as tie
 

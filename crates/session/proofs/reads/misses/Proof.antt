@@ -1,7 +1,7 @@
 -- Each return is the answer of its case.
 use native.Mathlib.Omega.{arith}
 use borrow.Author.Rules.{rules}
-use Rattle.session.specs.ReadLaws.{misses_read, low_refused, high_refused, within_answered}
+use Rattle.session.proofs.ReadLaws.{misses_read, low_refused, high_refused, within_answered}
 use Rattle.session.proofs.reads.misses.Statement.{statement}
 use Rattle.session.proofs.reads.misses.Tie as tie
 

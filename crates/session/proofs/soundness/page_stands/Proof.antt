@@ -1,7 +1,7 @@
 -- A law for each return.
 use mathlib.Core.Path.{◌∙◌}
 use borrow.Author.Rules.{rules}
-use Rattle.session.specs.SoundLaws.{no_page, miscounted, stands_once}
+use Rattle.session.proofs.SoundLaws.{no_page, miscounted, stands_once}
 use Rattle.session.proofs.soundness.page_stands.Statement.{statement}
 use Rattle.session.proofs.soundness.page_stands.Tie as tie
 
