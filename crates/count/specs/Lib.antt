@@ -5,13 +5,10 @@ pub mod Count
 pub mod Listing
 -- The marked cases, which test it:
 pub mod MarkedAnswers
--- What the promises give their users:
-pub mod Promises
--- Laws: the checks, the hit table, a run over a trace, the promises answer by answer.
+-- What the code's parts promise one another: the checks, a run over a trace.
 pub mod Checks
-pub mod Table
 pub mod Runs
+-- Laws: the hit table, a run over a trace, OPT's look ahead.
+pub mod Table
 pub mod RunLaws
 pub mod OptLaws
-pub mod CountLaws
-pub mod ListLaws

@@ -31,7 +31,8 @@ ahead_page {trace} asked j h = below_at pages trace j asked.good h
 
 module _ {trace memory found near : List ℕ} (asked : LookAhead trace memory) where
   ahead_step : (j : ℕ) → suc j ≤ length trace → Ahead trace memory (suc j) found near
-      → Ahead trace memory j (set found j (get_or near (get_or trace j 0) 0)) (set near (get_or trace j 0) (length trace - suc j + 1))
+      → Ahead trace memory j (set found j (get_or near (get_or trace j 0) 0))
+      (set near (get_or trace j 0) (length trace - suc j + 1))
   unfolding nexts coming
   ahead_step j h a =
       let x : ℕ = get_or trace j 0 in

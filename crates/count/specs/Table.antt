@@ -1,5 +1,5 @@
 -- The hit table of a trace: filled with the sums of a run's depths, it has the hits of the plain caches (rule A4).
-use Rattle.std.specs.Prelude.{ℕ, ◌+◌, ◌≤◌, ◌≡◌, length, drop}
+use Rattle.std.specs.Prelude.{ℕ, ◌≤◌, ◌≡◌, length, drop}
 use native.Mathlib.Omega.{arith}
 use Rattle.std.proofs.Common.{◌∙◌, ap}
 use mathlib.Core.List.{List, [], ◌++◌, reverse}

@@ -24,7 +24,7 @@ use Rattle.count.specs.Checks.{limits_number}
 use Rattle.count.specs.Runs.{before}
 use Rattle.count.specs.RunLaws.{before_next, before_below, before_length}
 use Rattle.count.specs.Table.{filled_hits}
-use Rattle.count.specs.CountLaws.{count_limits, count_short, count_bad, count_filled, all_pages}
+use Rattle.count.proofs.CountLaws.{count_limits, count_short, count_bad, count_filled, all_pages}
 use Rattle.session.specs.declared.Session.{Session}
 use Rattle.session.specs.declared.Started.{Started}
 use Rattle.session.specs.declared.Started.TheVariants as started

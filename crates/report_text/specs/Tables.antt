@@ -6,7 +6,7 @@ use Rattle.rules.specs.Limits.{capacities, references, policies, lru, lfu, opt}
 use Rattle.rules.specs.declared.Answer.{Answer}
 use Rattle.rules.specs.declared.Answer.TheVariants.{Accepted}
 use Rattle.count.specs.Count.{count_answer, Counted}
-use Rattle.count.specs.Promises.{entry_is_hits}
+use Rattle.count.proofs.Promises.{entry_is_hits}
 use Rattle.file_theory.specs.Decoding.{says, Trace}
 use Rattle.file_theory.specs.RoundTrip.{GoodReferences, GoodTrace}
 use Rattle.report_theory.specs.Report.{heading, ending, report_for}

@@ -1,11 +1,11 @@
 -- The referenced page's rank before and after a reference, policy by policy, and LFU's counts after it.
-use Rattle.std.specs.Prelude.{ℕ, suc, ◌+◌, ◌<◌, min, false, cond, ◌≡◌, refl, List, ◌∷◌, ltb, length}
+use Rattle.std.specs.Prelude.{ℕ, suc, ◌+◌, ◌<◌, false, ◌≡◌, refl, List, ◌∷◌, length}
 use Rattle.std.proofs.Common.{arith, add-one, ◌∙◌}
 use Rattle.std.proofs.Math.Bool.{true}
 use Rattle.std.proofs.Math.Path.{sym}
 use Rattle.std.proofs.Math.Dec.{eqb}
 use Rattle.std.proofs.Math.ListN.{set}
-use borrow.Author.Tests.{eq-eqb, eqb-true, eqb-false, lt-ltb}
+use borrow.Author.Tests.{eq-eqb, eqb-false, lt-ltb}
 use Rattle.rules.specs.Limits.{references, pages, lru, lfu}
 use Rattle.rules.specs.Lists.{times}
 use Rattle.rules.specs.Cases.{by_cases}
@@ -49,12 +49,14 @@ module _ (policy page : ℕ) (past to : List ℕ) (fine : page < pages) (good : 
       → one_more (count_in (counts_after policy past) page) ≡ times page past + 1
   counted few d = omega (arith, found d, times_most page past)
 
-  pub counts_then_law : length past < references → counts_then policy page (counts_after policy past) ≡ counts_after policy (page ∷ past)
+  pub counts_then_law : length past < references
+      → counts_then policy page (counts_after policy past) ≡ counts_after policy (page ∷ past)
   unfolding counts_then count_stored
   counts_then_law few =
       by_cases (eqb policy lfu) (λ d. rw (d, lt-ltb page pages fine, counted few d) (more d)) (λ d. rw d (none d))
     where
-      more : eqb policy lfu ≡ true → set (counts_after policy past) page (times page past + 1) ≡ counts_after policy (page ∷ past)
+      more : eqb policy lfu ≡ true
+          → set (counts_after policy past) page (times page past + 1) ≡ counts_after policy (page ∷ past)
       more d = unfold counts_after frequencies bump in rw (d, frequency_is past good page)
 
       none : eqb policy lfu ≡ false → counts_after policy past ≡ counts_after policy (page ∷ past)

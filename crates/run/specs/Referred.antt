@@ -1,6 +1,6 @@
 -- What one reference does to all that is kept of a run, by the policy's number and for any memory: the list, how often each
--- depth came, LFU's counts. OPT is told two numbers: `near`, how near this reference is counted from the trace's end, and `next`,
--- how near the next one to the same page is. LRU and LFU read neither.
+-- depth came, LFU's counts. OPT is told two numbers: `near`, how near this reference is counted from the trace's end, and
+-- `next`, how near the next one to the same page is. LRU and LFU read neither.
 use Rattle.std.specs.Prelude.{ℕ, suc, ◌+◌, min, cond, ◌≡◌, List, eqb, ltb, get_or, set}
 use Rattle.rules.specs.Limits.{capacities, pages, lru, lfu}
 use Rattle.theory.specs.Priority.{Priority}

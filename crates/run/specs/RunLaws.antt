@@ -74,12 +74,14 @@ module _ (policy k : ℕ) (low : 1 ≤ k) (high : k ≤ capacities) (page : ℕ)
       rw (in_use, cut)
       (sym (kept_step (policy_of policy) (ranking_of policy) (shown_of policy) (keeps policy) k low page past to fine good))
 
-  module _ {places' : List ℕ} {s : Step} (stepped : Stepped (shown_of policy) k old new used (padded now_entries) places' s) where
+  module _ {places' : List ℕ} {s : Step}
+      (stepped : Stepped (shown_of policy) k old new used (padded now_entries) places' s) where
     pub depth_after_law : s.depth ≡ depth page (list_after (policy_of policy) k past (page ∷ to))
     unfolding kept
     depth_after_law =
         stepped.depth_is
-        ∙ rw in_use (depth_entry (ranking_of policy past (page ∷ to)) 1 page (list_after (policy_of policy) k past (page ∷ to)) fine
+        ∙ rw in_use
+        (depth_entry (ranking_of policy past (page ∷ to)) 1 page (list_after (policy_of policy) k past (page ∷ to)) fine
         (list_below 65536 (policy_of policy) k past (page ∷ to) good))
 
     pub length_after_law : s.length ≡ length_after policy k (page ∷ past) to

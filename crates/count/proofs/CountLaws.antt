@@ -17,7 +17,8 @@ use Rattle.kept.specs.Filled.{filled}
 use Rattle.kept.specs.Memory.{depths_after}
 use Rattle.count.specs.declared.runs.Run.{Run}
 use Rattle.count.specs.Count.{count_answer, count_table, within_limits, Counted}
-use Rattle.count.specs.Checks.{limits_number, limits_refused, limits_passed, limits_within}
+use Rattle.count.specs.Checks.{limits_number}
+use Rattle.count.proofs.CheckLaws.{limits_refused, limits_passed, limits_within}
 use Rattle.count.specs.Runs.{Fit, Ran}
 use Rattle.count.specs.Table.{filled_hits}
 

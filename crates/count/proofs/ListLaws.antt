@@ -14,8 +14,9 @@ use Rattle.kept.specs.Shown.{shown_places}
 use Rattle.run.specs.RunLaws.{run_shown}
 use Rattle.count.specs.declared.runs.Run.{Run}
 use Rattle.count.specs.Count.{list_answer, list_shown, within_limits}
-use Rattle.count.specs.Checks.{limits_number, limits_refused, limits_passed, limits_within}
-use Rattle.count.specs.CountLaws.{all_pages}
+use Rattle.count.specs.Checks.{limits_number}
+use Rattle.count.proofs.CheckLaws.{limits_refused, limits_passed, limits_within}
+use Rattle.count.proofs.CountLaws.{all_pages}
 use Rattle.count.specs.Listing.{Showing, unlisted}
 use Rattle.count.specs.Runs.{before, Fit, Ran}
 use Rattle.count.specs.RunLaws.{before_below}
