@@ -1,6 +1,6 @@
 -- The reads' promises: what a read makes of any memory is, in memory that a start and calls gave, what the rules say; and
 -- each answer of the code is what it makes of the memory.
-use Prim.Native.Nat.{ℕ, ◌-◌, ◌≤◌, ◌<◌, min}
+use Prim.Native.Nat.{ℕ, ◌≤◌, ◌<◌, min}
 use Rattle.std.proofs.Common.{arith, ◌∙◌, le-leb, leb-true}
 use Rattle.std.specs.Prelude.{◌≡◌, leb}
 use Rattle.std.proofs.Math.Path.{ap}

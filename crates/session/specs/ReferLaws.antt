@@ -26,7 +26,8 @@ start_bounds policy k e =
 
 -- a reference is accepted exactly if neither refusal applies
 module _ (calls : List ℕ) (page : ℕ) where
-  pub accepted_next : length (accepted_of calls) < references → page < pages → accepted_of (page ∷ calls) ≡ page ∷ accepted_of calls
+  pub accepted_next : length (accepted_of calls) < references → page < pages
+      → accepted_of (page ∷ calls) ≡ page ∷ accepted_of calls
   unfolding accepted_of
   accepted_next h p = rw (lt-leb references (length (accepted_of calls)) h, lt-leb pages page p)
 

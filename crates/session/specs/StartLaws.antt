@@ -1,9 +1,8 @@
 -- A start's promise, answer by answer; and what an accepted start gives is a session with no history.
-use Rattle.std.specs.Prelude.{ℕ, suc, Bool, true, false, cond, ◌≡◌, refl, List, [], eqb, replicate}
-use Rattle.std.proofs.Common.{sym, ◌∙◌}
-use Rattle.rules.specs.Limits.{capacities, pages, lru}
+use Rattle.std.specs.Prelude.{ℕ, suc, ◌≡◌, refl, List, [], replicate}
+use Rattle.std.proofs.Common.{◌∙◌}
+use Rattle.rules.specs.Limits.{capacities, pages}
 use Rattle.rules.specs.Refusals.{refusal}
-use Rattle.rules.specs.Cases.{by_cases}
 use Rattle.rules.specs.declared.Answer.TheVariants.{Accepted}
 use Rattle.theory.specs.OnePass.{list_after}
 use Rattle.kept.specs.Memory.{length_after}

@@ -1,18 +1,21 @@
 // Is a session sound (rule X4)? What the tests of the calls leave to the caller who wants to know: that the list holds
 // pages, each once and with its count, and that the counts add up. A session that a start and calls gave passes
-// (specs/SoundLaws.antt).
+// (proofs/SoundLaws.antt).
 ghost use Rattle.std.specs.Prelude.{◌<◌, ◌≡◌};
 ghost use Rattle.rules.specs.Limits.{capacities, pages};
 ghost use Rattle.rules.specs.AllBelow.{all_below};
 ghost use Rattle.kept.specs.Entries.{page_of as «page_of_entry»};
 ghost use Rattle.session.specs.Lent.{lent_of};
-ghost use Rattle.session.specs.Tests.{sound as «sound_of», total, stands_else, page_stands as «page_stands_of», place_stands as «place_stands_of», counts_add_up as «counts_add_up_of»};
+ghost use Rattle.session.specs.Tests.{sound as «sound_of», total, stands_else};
+ghost use Rattle.session.specs.Tests.{page_stands as «page_stands_of», place_stands as «place_stands_of»};
+ghost use Rattle.session.specs.Tests.{counts_add_up as «counts_add_up_of»};
 
 use crate::{Session, countable};
 use kept::DEPTHS;
 use rules::{CAPACITIES, LFU, PAGES, both};
 
 // The page of an entry.
+#[tactic(auto, unfolding(kept::specs::Entries::page_of))]
 fn page_of(entry: u32) -> u16
     ensures { result ≡ «page_of_entry» entry }
 {
@@ -52,6 +55,7 @@ fn page_stands(places: &[u32; CAPACITIES], counts: &[u16; PAGES as usize], i: us
 }
 
 // The same of a place in use; a place behind reads 0.
+#[tactic(auto, unfolding(crate::specs::Tests::place_stands))]
 fn place_stands(
     used: usize,
     places: &[u32; CAPACITIES],
@@ -101,6 +105,7 @@ fn all_counts(counts: &[u16; PAGES as usize]) -> usize
 }
 
 // LFU counted each reference once; LRU counts none.
+#[tactic(auto, unfolding(crate::specs::Tests::counts_add_up))]
 fn counts_add_up(s: Session, counts: &[u16; PAGES as usize]) -> bool
     ensures { result ≡ «counts_add_up_of» s counts.now }
 {
@@ -112,6 +117,7 @@ fn counts_add_up(s: Session, counts: &[u16; PAGES as usize]) -> bool
 }
 
 // X4: is all of it sound?
+#[tactic(auto, unfolding(crate::specs::Tests::sound))]
 pub fn sound(
     s: Session,
     places: &[u32; CAPACITIES],

@@ -9,6 +9,7 @@ use kept::DEPTHS;
 use rules::{CAPACITIES, OPT, REFERENCES};
 
 // X2: do its numbers fit?
+#[tactic(auto, unfolding(crate::specs::Tests::fits))]
 pub fn fits(s: Session) -> bool
     ensures { result ≡ «fits_of» s }
 {
@@ -48,6 +49,7 @@ fn all_depths(depths: &[u32; DEPTHS]) -> usize
 }
 
 // X3: do its depths add up to its references?
+#[tactic(auto, unfolding(crate::specs::Tests::adds_up))]
 pub fn adds_up(s: Session, depths: &[u32; DEPTHS]) -> bool
     ensures { result ≡ «adds_up_of» s depths.now }
 {
