@@ -14,6 +14,7 @@ const NEXT: [[u8; 5]; 3] = [
 ];
 
 // The table's entry: a next state or a refusal.
+#[tactic(auto, unfolding(row_theory::specs::States::table_at))]
 fn next(state: u8, event: Event) -> u8
     requires { state ≤ busy }
     ensures { result ≡ table_at state event }
@@ -29,6 +30,7 @@ fn next(state: u8, event: Event) -> u8
 }
 
 // The refusal's number, or the state that the call gives its frame (rule O6).
+#[tactic(auto, using(row_theory::proofs::VerdictLaws::verdicts))]
 pub(crate) fn verdict(states: &PerFrame, held: usize, event: Event, frame: u8) -> u8
     requires { ((f : ℕ) → get_or states.now f 0 ≤ busy) × (held ≡ held_in states.now) }
     ensures { result ≡ verdict_of states.now (asked event frame) }
@@ -52,6 +54,7 @@ pub(crate) fn verdict(states: &PerFrame, held: usize, event: Event, frame: u8) -
 }
 
 // What a frame in this state adds to the number held.
+#[tactic(auto, unfolding(row_theory::specs::States::held_bit))]
 pub(crate) fn held_bit(state: u8) -> usize
     ensures { result ≡ «held_bit_of» state }
 {

@@ -1,12 +1,13 @@
 // The test of a row in lent memory (rule X5), in one pass over its slots and its frames: what the C boundary asks before it
 // calls anything here, and what firmware asks after waking up. It is exact: memory passes it exactly if a fresh row and calls
-// give it (specs/TestLaws.antt of `row_theory`).
+// give it (proofs/TestLaws.antt of `row_theory`).
 ghost use Rattle.std.specs.Prelude.{◌≡◌, ◌<◌, length};
 ghost use Rattle.rules.specs.Limits.{frames, slots as slot_count};
 ghost use Rattle.rules.specs.AllBelow.{all_below};
 ghost use Rattle.row_theory.specs.States.{held_in as «held_in_of»};
 ghost use Rattle.row_theory.specs.Slots.{frames_in};
-ghost use Rattle.row_theory.specs.RowTest.{slot_sound as «slot_sound_of», frame_sound as «frame_sound_of», place_sound as «place_sound_of», row_sound, RowTested};
+ghost use Rattle.row_theory.specs.RowTest.{slot_sound as «slot_sound_of», frame_sound as «frame_sound_of»};
+ghost use Rattle.row_theory.specs.RowTest.{place_sound as «place_sound_of», row_sound, RowTested};
 ghost use Rattle.row_theory.specs.TestParts.{Sized};
 ghost use Rattle.row_theory.specs.TestSteps.{SlotTested, FrameTested, PlaceTested, RoomTested, full_bit as «full_bit_of»};
 ghost use Rattle.row_theory.specs.Promise.{memory};

@@ -1,5 +1,6 @@
 -- The states of frames after any calls (docs/RULES.md, W6, L5): one for each frame, each of the three, at most 32 frames held.
-use Rattle.std.specs.Prelude.{ℕ, zero, suc, ◌+◌, ◌<◌, ◌≤◌, ◌≡◌, refl, true, false, List, [], ◌∷◌, eqb, length, get_or, set, replicate}
+use Rattle.std.specs.Prelude.{ℕ, zero, suc, ◌+◌, ◌<◌, ◌≤◌, ◌≡◌, refl, true, false, List, [], ◌∷◌, eqb, length, get_or, set}
+use Rattle.std.specs.Prelude.{replicate}
 use Rattle.std.proofs.Common.{zero-le, arith, ap, length-set, get_or-set_same, get_or-set_other, eqb-true}
 use Rattle.std.proofs.lemmas.List.{length-replicate}
 use Rattle.std.proofs.lemmas.Bool.{eqb-false}

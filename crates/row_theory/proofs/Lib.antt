@@ -1,4 +1,5 @@
--- Laws and theorems of the definitions in specs/, apart from them so that a changed definition is refused by what no longer holds.
+-- Laws and theorems of the definitions in specs/, apart from them so that a changed definition is refused by what no longer
+-- holds.
 --
 -- What holds over any calls from a fresh row, and of any answer that meets a promise.
 pub mod Theorems

@@ -1,7 +1,9 @@
 -- The pass that squeezes (docs/RULES.md, W3), over lent slots and places: what it keeps, and what it has done at its end.
-use Rattle.std.specs.Prelude.{ℕ, suc, ◌+◌, ◌-◌, ◌<◌, ◌≤◌, ◌≡◌, refl, cond, List, [], ◌++◌, eqb, length, get_or, set, take, drop, replicate}
+use Rattle.std.specs.Prelude.{ℕ, suc, ◌+◌, ◌-◌, ◌<◌, ◌≤◌, ◌≡◌, refl, cond, List, [], ◌++◌, eqb, length, get_or, set, take, drop}
+use Rattle.std.specs.Prelude.{replicate}
 use Rattle.std.proofs.Math.Nat.{sub-zero}
-use Rattle.std.proofs.Common.{le_refl, arith, sym, ◌∙◌, ap, subst, append-nil, length-set, drop_of_length-le, drop-cons, take_all, set-set, eq-eqb, ne_eqb}
+use Rattle.std.proofs.Common.{le_refl, arith, sym, ◌∙◌, ap, subst, append-nil, length-set, drop_of_length-le, drop-cons}
+use Rattle.std.proofs.Common.{take_all, set-set, eq-eqb, ne_eqb}
 use Rattle.rules.specs.Limits.{frames, slots}
 use Rattle.rules.specs.Lists.{times}
 use Rattle.row_theory.specs.Slots.{empty, frames_in, squeezed_front, squeezed, places_in}

@@ -1,6 +1,8 @@
 -- Laws of the frames' places (definitions: Slots): what a store into the slots changes of them.
 use Rattle.std.specs.Prelude.{ℕ, zero, suc, ◌+◌, ◌<◌, ◌≤◌, ◌≡◌, refl, List, [], ◌∷◌, eqb, length, get_or, set}
-use Rattle.std.proofs.Common.{suc-le-suc, zero-le, zero-add, add-zero, add-suc, suc-add, not-suc-le-zero, le_of_suc-le-suc, arith, sym, ◌∙◌, ap, length-set, get_or-set_same, get_or-set_other, ext_get_or, eq-eqb, ne_eqb, eqb-true}
+use Rattle.std.proofs.Common.{suc-le-suc, zero-le, zero-add, add-zero, add-suc, suc-add, not-suc-le-zero, le_of_suc-le-suc}
+use Rattle.std.proofs.Common.{arith, sym, ◌∙◌, ap, length-set, get_or-set_same, get_or-set_other, ext_get_or, eq-eqb, ne_eqb}
+use Rattle.std.proofs.Common.{eqb-true}
 use Rattle.std.proofs.lemmas.Bool.{eqb-false}
 use Rattle.rules.specs.Limits.{frames}
 use Rattle.rules.specs.Lists.{times}
@@ -91,7 +93,10 @@ pub places_out : (row : List ℕ) (k x d : ℕ) → x < frames → k < length ro
     places_in (set row k empty) ≡ set (places_in row) x (length row)
 places_out row k x d small inside there once =
     let none : times x (set row k empty) ≡ 0 =
-    omega (arith, rw (eq-eqb (get_or row k d) x there, ne_eqb empty x (λ e. omega arith)) at (times_set x row k empty d inside)) in
+    omega (
+      arith,
+      rw (eq-eqb (get_or row k d) x there, ne_eqb empty x (λ e. omega arith)) at (times_set x row k empty d inside),
+    ) in
     places_set row (set row k empty) x (length row) small (slot_of_none x (set row k empty) none ∙ length-set row k empty)
     (λ y low ne. slot_of_other y row k empty d inside (λ e. ne (sym e ∙ there)) (λ e. omega arith))
 
@@ -103,7 +108,8 @@ places_in_law row k x d small inside there none =
     (λ y low ne. slot_of_other y row k x d inside (λ e. omega arith) (λ e. ne (sym e)))
 
 -- emptying a slot without a frame changes no place
-pub places_same : (row : List ℕ) (k d : ℕ) → k < length row → frames ≤ get_or row k d → places_in (set row k empty) ≡ places_in row
+pub places_same : (row : List ℕ) (k d : ℕ) → k < length row → frames ≤ get_or row k d →
+    places_in (set row k empty) ≡ places_in row
 places_same row k d inside there =
     ext_get_or 0 (places_in (set row k empty)) (places_in row) (places_in_length (set row k empty) ∙ sym (places_in_length row))
     (λ i low. let small : i < frames = omega (arith, places_in_length (set row k empty)) in

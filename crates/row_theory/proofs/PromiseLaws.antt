@@ -52,7 +52,13 @@ answered {m} {call} {reply} {m'} reached answer next index =
 pub same_memory : {m₁ m₂ : Memory} → row_in m₁ ≡ row_in m₂ → Stands m₁ → Stands m₂ → m₁ ≡ m₂
 same_memory {m₁} {m₂} same one two =
     let places : m₁.places ≡ m₂.places = one.index ∙ ap (λ (r : Row). places_in r.slots) same ∙ sym two.index in
-    λ i. record { slots = (same i).slots; places = places i; states = (same i).states; front = (same i).front; held = (same i).held }
+    λ i. record {
+      slots = (same i).slots;
+      places = places i;
+      states = (same i).states;
+      front = (same i).front;
+      held = (same i).held;
+    }
 
 pub fresh_row_law : {m : Memory} → row_in m ≡ empty_row → m.places ≡ places_in m.slots → FreshRow m
 unfolding row_after

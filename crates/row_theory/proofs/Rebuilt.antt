@@ -2,7 +2,8 @@
 -- for each empty slot, and a start for each busy frame. Told backwards, each of these takes a tidy row from one that is nearer
 -- to a fresh one.
 use Rattle.std.specs.Prelude.{ℕ, zero, suc, ◌+◌, ◌-◌, ◌<◌, ◌≤◌, ◌≡◌, List, [], ltb, eqb, length, get_or, set, replicate}
-use Rattle.std.proofs.Common.{le_refl, arith, ◌∙◌, subst, get_or-set_same, get_or-set_other, ext_get_or, ne_eqb, eqb-true, ltb-true, ltb-false}
+use Rattle.std.proofs.Common.{le_refl, arith, ◌∙◌, subst, get_or-set_same, get_or-set_other, ext_get_or, ne_eqb, eqb-true}
+use Rattle.std.proofs.Common.{ltb-true, ltb-false}
 use Rattle.std.proofs.Math.Path.{refl, sym, ap}
 use Rattle.std.proofs.Math.ListN.{get_or-eq_default}
 use Rattle.std.proofs.lemmas.List.{length-replicate}

@@ -1,5 +1,6 @@
 -- Looking for the oldest idle frame with a mark from the last slot down (docs/RULES.md, W7).
-use Rattle.std.specs.Prelude.{ℕ, zero, suc, ◌-◌, ◌<◌, ◌≤◌, ◌≡◌, refl, Bool, false, cond, List, [], ◌∷◌, ltb, eqb, length, get_or, drop}
+use Rattle.std.specs.Prelude.{ℕ, zero, suc, ◌-◌, ◌<◌, ◌≤◌, ◌≡◌, refl, Bool, false, cond, List, [], ◌∷◌, ltb, eqb, length}
+use Rattle.std.specs.Prelude.{get_or, drop}
 use Rattle.std.proofs.Common.{suc-le-suc, zero-le, le_refl, arith, ◌∙◌, ap, drop_of_length-le, drop-cons}
 use Rattle.std.proofs.Math.Bool.{true, and-false}
 use borrow.Author.Tests.{lt-ltb, le-ltb, eq-eqb, ne_eqb}

@@ -85,5 +85,6 @@ all_stand slots states wide many each f small =
     let held : held_in states ≡ sum_to (λ f. held_bit (get_or states f 0)) frames =
     ap held_in (sym (take-length states) ∙ ap (λ (n : ℕ). take n states) wide) ∙ held_sum states frames (omega arith) in
     sym
-    (sums_meet (λ f. held_bit (get_or states f 0)) (λ f. times f slots) frames each (omega (arith, frames_sum slots, many, held)) f
+    (sums_meet (λ f. held_bit (get_or states f 0)) (λ f. times f slots) frames each
+    (omega (arith, frames_sum slots, many, held)) f
     small)

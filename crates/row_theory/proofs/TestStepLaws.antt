@@ -1,7 +1,10 @@
 -- What each step of the test of a row answers (TestSteps): what code reads decides its part of the test.
-use Rattle.std.specs.Prelude.{ℕ, zero, suc, ◌+◌, ◌<◌, ◌≤◌, ◌≡◌, refl, Bool, true, false, cond, List, [], ◌∷◌, leb, ltb, eqb, length, take}
-use Rattle.std.proofs.Common.{zero-le, not-suc-le-zero, le_of_suc-le-suc, add-one, arith, sym, ◌∙◌, ap, take_all, eq-eqb, ne_eqb, lt-ltb, le-ltb, le-leb, ltb-true}
+use Rattle.std.specs.Prelude.{ℕ, zero, suc, ◌+◌, ◌<◌, ◌≤◌, ◌≡◌, refl, Bool, true, false, cond, List, [], ◌∷◌, leb, ltb, eqb}
+use Rattle.std.specs.Prelude.{length, take}
+use Rattle.std.proofs.Common.{zero-le, not-suc-le-zero, le_of_suc-le-suc, add-one, arith, sym, ◌∙◌, ap, take_all, eq-eqb}
+use Rattle.std.proofs.Common.{ne_eqb, lt-ltb, le-ltb, le-leb, ltb-true}
 use Rattle.std.proofs.lemmas.Bool.{lt-leb}
+use Rattle.std.proofs.lemmas.Bool.Decides.{nat_tests}
 use Rattle.std.proofs.Math.ListN.{get_or-eq_default, get_or}
 use Rattle.rules.specs.Limits.{frames}
 use Rattle.rules.specs.Limits
@@ -72,14 +75,14 @@ module _ {slots : List ℕ} {front held : ℕ} where
         is =
             unfold room_sound in
             by_cases (ltb (get_or slots front empty) frames) (λ e. rw (e, le-leb held Limits.held (omega arith)))
-            (λ e. rw (e, lt-ltb held Limits.held few));
+            (λ e. rw e (grind (arith, nat_tests)));
       }
 
   pub room_past : length slots ≡ Limits.slots → Limits.held ≤ held → Limits.slots ≤ front → RoomTested slots front held false
   unfolding room_sound
   room_past long many past =
       let none : get_or slots front empty ≡ empty = get_or-eq_default slots empty {n = front} (omega arith) in
-      record { is = rw (none, le-ltb held Limits.held many) }
+      record { is = rw none (grind (arith, nat_tests)) }
 
   pub room_gap : length slots ≡ Limits.slots → front < Limits.slots → Limits.held ≤ held → frames ≤ get_or slots front 0 →
       RoomTested slots front held false

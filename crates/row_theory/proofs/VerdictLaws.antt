@@ -81,7 +81,8 @@ module _ (states : List ℕ) (event : Event) (frame : ℕ) where
 
     pub verdict_held : (state_of states frame ≡ absent → ⊥) → cell ≡ verdict_of states (asked event frame)
     unfolding verdict_of
-    verdict_held held = rw (lt-leb frames frame small, ← is, le-ltb busy _ low, put_if, ne_eqb (state_of states frame) absent held)
+    verdict_held held =
+        rw (lt-leb frames frame small, ← is, le-ltb busy _ low, put_if, ne_eqb (state_of states frame) absent held)
 
     pub verdict_full : {n : ℕ} → state_of states frame ≡ absent → n ≡ held_in states → held ≤ n →
         row_full ≡ verdict_of states (asked event frame)
@@ -110,3 +111,6 @@ module _ (states : List ℕ) (event : Event) (frame : ℕ) where
           ← number,
           lt-leb held n room,
         )
+
+-- the ways through the order of refusals, one for each return of the code's verdict
+pub ruleset verdicts = (verdict_past, verdict_table, verdict_held, verdict_full, verdict_next)

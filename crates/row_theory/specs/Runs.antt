@@ -52,8 +52,8 @@ answers_from row (call ∷ calls) = reply_of row call ∷ answers_from (after ro
 -- P9 to P12: what a fresh row answers to these calls, and the victim after them. Whoever unfolds one of the two unfolds all
 -- that it computes by
 unfoldable pub answers_of : List Call → List Reply
-unfolding table_at held_bit held_in verdict_of refusal_of accepts states_then frames_in emptied squeezed_front squeezed roomy_slots
-    roomy_front vacated slots_then front_then examined_then empty_row moved after reply_of answers_from
+unfolding table_at held_bit held_in verdict_of refusal_of accepts states_then frames_in emptied squeezed_front squeezed
+    roomy_slots roomy_front vacated slots_then front_then examined_then empty_row moved after reply_of answers_from
 answers_of calls = answers_from empty_row calls
 
 unfoldable pub victim_after_calls : List Call → Victim

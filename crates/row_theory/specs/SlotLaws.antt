@@ -1,6 +1,7 @@
 -- Laws of the slots (definitions: Slots): what emptying a slot, squeezing and taking a slot make of the frames in the slots.
 use Prim.Native.Nat.{ℕ, zero, suc, ◌+◌, ◌<◌, ◌≤◌, suc-le-suc, zero-le}
-use Rattle.std.proofs.Common.{not-suc-le-zero, le_of_suc-le-suc, arith, sym, ◌∙◌, ap, lit≤, length-append, get_or-set_other, ne_eqb, eqb-true, lt-ltb, le-ltb, ltb-true, ltb-false}
+use Rattle.std.proofs.Common.{not-suc-le-zero, le_of_suc-le-suc, arith, sym, ◌∙◌, ap, lit≤, length-append, get_or-set_other}
+use Rattle.std.proofs.Common.{ne_eqb, eqb-true, lt-ltb, le-ltb, ltb-true, ltb-false}
 use Rattle.std.specs.Prelude.{◌≡◌, List, [], ◌∷◌, ◌++◌, ltb, eqb, length, set, replicate}
 use Rattle.std.proofs.Math.Path.{refl}
 use Rattle.std.proofs.lemmas.List.{length-replicate}
@@ -52,7 +53,8 @@ times_past x (y ∷ row) h =
     (λ e. rw e (times_past x row h))
 
 -- W4: emptying a frame's slot takes the frame out
-pub frames_in_emptied : (frame : ℕ) (row : List ℕ) → frame < frames → frames_in (emptied frame row) ≡ without frame (frames_in row)
+pub frames_in_emptied : (frame : ℕ) (row : List ℕ) → frame < frames →
+    frames_in (emptied frame row) ≡ without frame (frames_in row)
 unfolding frames_in emptied without
 frames_in_emptied frame [] h = refl
 frames_in_emptied frame (x ∷ row) h =

@@ -1,6 +1,7 @@
 -- The slots of the row (docs/RULES.md, W1 to W5, W7; Hoogerwoord 1992, section 1): emptying a slot, squeezing, taking a slot,
 -- the oldest frame.
-use Rattle.std.specs.Prelude.{ℕ, zero, suc, ◌-◌, ◌<◌, ◌≡◌, Bool, cond, ◌&&◌, List, [], ◌∷◌, ◌++◌, ltb, eqb, length, get_or, set, replicate}
+use Rattle.std.specs.Prelude.{ℕ, zero, suc, ◌-◌, ◌<◌, ◌≡◌, Bool, cond, ◌&&◌, List, [], ◌∷◌, ◌++◌, ltb, eqb, length, get_or, set}
+use Rattle.std.specs.Prelude.{replicate}
 use Rattle.rules.specs.Limits.{frames, slots}
 use Rattle.row_theory.specs.States.{moves}
 use Rattle.row_theory.specs.declared.Event.{Event}

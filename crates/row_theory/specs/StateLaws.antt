@@ -1,6 +1,7 @@
 -- Laws of the state table and of the list of states (definitions: States). The table's rule is proved once, over all of its
 -- fifteen entries.
-use Rattle.std.specs.Prelude.{ℕ, zero, suc, ◌+◌, ◌<◌, ◌≤◌, ◌≡◌, refl, Bool, true, false, cond, ◌&&◌, List, [], ◌∷◌, leb, ltb, eqb, length, get_or, set}
+use Rattle.std.specs.Prelude.{ℕ, zero, suc, ◌+◌, ◌<◌, ◌≤◌, ◌≡◌, refl, Bool, true, false, cond, ◌&&◌, List, [], ◌∷◌, leb, ltb}
+use Rattle.std.specs.Prelude.{eqb, length, get_or, set}
 use Rattle.std.proofs.Common.{not-suc-le-zero, le_of_suc-le-suc, arith, leb-true, leb-false, ltb-false, ltb-true}
 use Rattle.rules.specs.Limits.{frames, held}
 use Rattle.rules.specs.Refusals.{bad_frame, row_full}

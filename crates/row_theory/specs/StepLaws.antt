@@ -38,7 +38,8 @@ slot_step event row front frame ready =
     (λ still. rw still (vacate_holding event frame small fits))
 
 -- a call that does not move its frame leaves the front
-pub front_stays : (event : Event) (row : List ℕ) (front frame : ℕ) → moves event ≡ false → front_then event row front frame ≡ front
+pub front_stays : (event : Event) (row : List ℕ) (front frame : ℕ) → moves event ≡ false →
+    front_then event row front frame ≡ front
 unfolding front_then
 front_stays event row front frame still = rw still
 

@@ -1,5 +1,5 @@
 // The frame row (rules W1 to W7; Hoogerwoord 1992, section 1, with N = 64 and M = 32): the kinds of value that its calls take
-// and answer. The definitions and the theory of call histories stand in specs/; the calls are in `row`.
+// and answer. The definitions stand in specs/, the theory of call histories in proofs/; the calls are in `row`.
 #![tactic(auto)]
 
 use rules::{FRAMES, Frame, Refusal, SLOTS};

@@ -1,4 +1,4 @@
--- Laws and theorems of the definitions in specs/, apart from them so that a changed definition is refused by what no longer holds.
+-- Laws and theorems of the definitions in specs/, apart from them: a changed definition is then refused by what no longer holds.
 -- The marked cases, which test the definitions:
 pub mod MarkedCounts
 -- Laws, which antt checks, and the theorems that they lead to:
