@@ -12,8 +12,6 @@ use Rattle.rules.specs.declared.Answer.TheVariants.{Accepted, Refused}
 use Rattle.file_theory.specs.declared.Section.TheVariants.{Cut, Over, Values}
 use Rattle.file_theory.specs.declared.Part.{Part}
 use Rattle.file_theory.specs.declared.Reading.{Reading}
-use Rattle.file_theory.specs.declared.Part.TheVariants as Part
-use Rattle.file_theory.specs.declared.Reading.TheVariants as Reading
 use Rattle.file_theory.specs.Format.{section_size, section_values, behind_section}
 use Rattle.file_theory.specs.Decoding.{Outcome, says, refuses, unplaced, section, rising, first_of}
 use Rattle.file_theory.specs.Decoding.{pages_answer, pages_of, references_in, Trace, with_capacities, trace_behind, trace_in}

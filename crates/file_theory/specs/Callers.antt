@@ -5,7 +5,6 @@ use Rattle.std.proofs.Math.Seq.{take-append_seam}
 use Rattle.rules.specs.declared.Refusal.{Refusal}
 use Rattle.file_theory.specs.declared.Counts.{Counts}
 use Rattle.file_theory.specs.declared.Reading.{Reading}
-use Rattle.file_theory.specs.declared.Reading.TheVariants as Reading
 use Rattle.file_theory.specs.Decoding.{Outcome, says, refuses, Trace, trace_in}
 use Rattle.file_theory.specs.Promises.{reading_of, FileRead}
 use Rattle.file_theory.specs.Words.{Bytes}

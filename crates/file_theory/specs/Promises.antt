@@ -2,8 +2,6 @@
 use Rattle.std.specs.Prelude.{◌≡◌, List, [], ◌++◌, ℕ, length, drop}
 use Rattle.file_theory.specs.declared.Part.{Part}
 use Rattle.file_theory.specs.declared.Reading.{Reading}
-use Rattle.file_theory.specs.declared.Part.TheVariants as Part
-use Rattle.file_theory.specs.declared.Reading.TheVariants as Reading
 use Rattle.file_theory.specs.Decoding.{Outcome, says, refuses, Trace}
 
 -- F4: a table that took some values has them in front, and behind them what stood there

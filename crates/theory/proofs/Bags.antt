@@ -1,7 +1,7 @@
 -- Lists as bags: two lists hold the same pages where every weight of pages has the same sum over both.
 -- Length is the weight 1, and how often a page stands in a list is the weight that is 1 at that page.
-use Rattle.std.specs.Prelude.{ℕ, suc, ◌+◌, ◌≤◌, ◌<◌, Bool, true, false, cond, ◌≡◌, refl, List, [], ◌∷◌, eqb, ltb, length}
-use Rattle.std.proofs.Common.{arith, add-suc, ap, sym, ◌∙◌, eq-eqb, eqb-true, lt-ltb, le-ltb}
+use Rattle.std.specs.Prelude.{ℕ, suc, ◌+◌, ◌≡◌, refl, List, [], ◌∷◌, eqb, ltb, length}
+use Rattle.std.proofs.Common.{arith, sym, ◌∙◌, lt-ltb}
 use Rattle.rules.specs.Lists.{holds, times, one}
 use Rattle.rules.specs.Cases.{by_cases}
 

@@ -3,15 +3,14 @@
 -- nothing where there is room. One equation of sums then serves hits and misses alike and needs no law of the order.
 use Prim.Native.Nat.{ℕ, zero, suc, ◌+◌, ◌≤◌, ◌<◌}
 use native.Mathlib.Omega.{arith}
-use Rattle.std.specs.Prelude.{Bool, cond, ◌≡◌, eqb, length, take}
+use Rattle.std.specs.Prelude.{cond, ◌≡◌, eqb, length, take}
 use Rattle.std.proofs.Math.Bool.{true, false}
 use Rattle.std.proofs.Math.Path.{refl}
-use Rattle.std.proofs.Common.{sym, ◌∙◌, ap}
 use mathlib.Core.List.{List, [], ◌∷◌}
 use Rattle.std.proofs.Math.Seq.{take-nil}
 use borrow.Author.Tests.{eqb-true}
 use Rattle.rules.specs.Lists.{holds}
-use Rattle.theory.specs.Priority.{Priority, lower, higher}
+use Rattle.theory.specs.Priority.{Priority, lower}
 use Rattle.theory.specs.Plain.{lowest}
 use Rattle.theory.specs.OnePass.{carry, place}
 use Rattle.theory.proofs.Bags.{sum}

@@ -1,8 +1,8 @@
 -- The list of k places is the unlimited list cut at k (rule M4), so its first places do not depend on k.
-use Rattle.std.specs.Prelude.{ℕ, zero, suc, ◌≤◌, Bool, true, false, cond, ◌≡◌, refl, List, [], ◌∷◌, eqb, take, length}
-use Rattle.std.proofs.Common.{arith, sym, ◌∙◌, ap, take-take}
+use Rattle.std.specs.Prelude.{ℕ, zero, suc, ◌≤◌, ◌≡◌, refl, List, [], ◌∷◌, eqb, take}
+use Rattle.std.proofs.Common.{arith, sym, take-take}
 use Rattle.std.proofs.Math.Seq.{take-nil}
-use Rattle.theory.specs.Priority.{Priority, Policy, lower, higher}
+use Rattle.theory.specs.Priority.{Priority, Policy, lower}
 use Rattle.theory.specs.OnePass.{carry, place, step, list_after, unlimited}
 use Rattle.rules.specs.Cases.{by_cases}
 

@@ -1,6 +1,6 @@
 -- A depth of 1 to n is a place among the first n (rule M6).
-use Rattle.std.specs.Prelude.{ℕ, zero, suc, ◌+◌, ◌≤◌, ◌<◌, Bool, true, false, cond, ◌&&◌, ◌≡◌, refl, List, [], ◌∷◌, eqb, leb, take, length}
-use Rattle.std.proofs.Common.{arith, add-suc, suc-add, add-zero, zero-add, sym, ◌∙◌, ap, le-leb, leb-false}
+use Rattle.std.specs.Prelude.{ℕ, zero, suc, ◌+◌, ◌≤◌, false, ◌≡◌, refl, List, [], ◌∷◌, eqb, leb, take, length}
+use Rattle.std.proofs.Common.{arith, add-suc, suc-add, add-zero, zero-add, le-leb, leb-false}
 use Rattle.std.proofs.Math.Seq.{take-nil}
 use Rattle.std.proofs.lemmas.Bool.{lt-leb}
 use Rattle.rules.specs.Lists.{holds}

@@ -1,12 +1,12 @@
 -- The page of lowest priority of a bag is one page only: the single place where the laws of an order are used.
-use Rattle.std.specs.Prelude.{ℕ, suc, ◌+◌, ◌≤◌, ◌<◌, Bool, cond, ◌≡◌, refl, eqb, ltb}
-use Rattle.std.proofs.Common.{arith, ◌∙◌, ap, eqb-true, eq-eqb}
+use Rattle.std.specs.Prelude.{ℕ, ◌≡◌, refl, eqb}
+use Rattle.std.proofs.Common.{◌∙◌, eqb-true, eq-eqb}
 use Rattle.std.proofs.Math.Bool.{true, false}
 use Rattle.std.proofs.Math.Path.{sym}
 use mathlib.Core.List.{List, [], ◌∷◌}
 use Rattle.std.proofs.lemmas.Bool.{eqb-false}
 use Rattle.rules.specs.Lists.{holds}
-use Rattle.theory.specs.Priority.{Priority, Order, lower, higher}
+use Rattle.theory.specs.Priority.{Priority, Order}
 use Rattle.theory.specs.Plain.{lowest}
 use Rattle.theory.proofs.Bags.{Same, same_holds}
 use Rattle.rules.specs.Cases.{by_cases, clash}

@@ -1,9 +1,9 @@
 -- The three policies are orders (rules Q1 to Q3): proved once for "by this number, ties by that order".
-use Rattle.std.specs.Prelude.{ℕ, suc, ◌≤◌, ◌<◌, Bool, true, false, cond, ◌≡◌, refl, List, eqb, ltb}
+use Rattle.std.specs.Prelude.{ℕ, ◌≤◌, ◌<◌, true, false, ◌≡◌, List, eqb, ltb}
 use Rattle.std.proofs.Common.{arith, sym, ◌∙◌}
 use borrow.Author.Tests.{ltb-true, ltb-false, lt-ltb, le-ltb, eqb-true, eqb-false, eq-eqb, ne_eqb}
 use Rattle.rules.specs.Limits as limits
-use Rattle.theory.specs.Priority.{Priority, Policy, Order}
+use Rattle.theory.specs.Priority.{Priority, Order}
 use Rattle.theory.specs.Policy.{by_more, smaller, nearness, lru, lfu, opt, policy_of}
 use Rattle.rules.specs.Lists.{times}
 use Rattle.rules.specs.Cases.{by_cases, clash}

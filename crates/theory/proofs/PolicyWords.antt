@@ -1,9 +1,9 @@
 -- The policies in the rules' own words (Q1 to Q3): what the ranks of Policy.antt come to for two pages.
-use Rattle.std.specs.Prelude.{ℕ, zero, suc, ◌≤◌, ◌<◌, Bool, true, false, cond, ◌≡◌, refl, List, [], ◌∷◌, ◌++◌, ltb, eqb, length}
+use Rattle.std.specs.Prelude.{ℕ, ◌≤◌, ◌<◌, true, false, ◌≡◌, refl, List, [], ◌∷◌, ◌++◌, eqb, length}
 use Rattle.std.proofs.Common.{arith, sym, lt-ltb, eq-eqb, ne_eqb}
 use Rattle.rules.specs.Cases.{by_cases, clash}
 use Rattle.rules.specs.Lists.{holds, times}
-use Rattle.theory.specs.Policy.{by_more, smaller, nearness, lru, lfu, opt}
+use Rattle.theory.specs.Policy.{smaller, nearness, lru, lfu, opt}
 use Rattle.theory.proofs.Order.{by_more_more, by_more_equal}
 
 pub nearness_most : (p : ℕ) (l : List ℕ) → nearness p l ≤ length l

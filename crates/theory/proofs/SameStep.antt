@@ -1,19 +1,17 @@
 -- One reference takes the first c places of the list and a plain cache of c frames from the same pages to the same pages,
 -- under any priority that is an order.
-use Rattle.std.specs.Prelude.{ℕ, zero, suc, ◌+◌, ◌≤◌, ◌<◌, min, Bool, true, false, cond, not, ◌≡◌, refl, List, [], ◌∷◌, eqb, leb, ltb, take}
+use Rattle.std.specs.Prelude.{ℕ, suc, ◌+◌, ◌≤◌, true, false, ◌≡◌, refl, List, [], ◌∷◌, eqb, take}
 use native.Mathlib.Omega.{arith}
-use Rattle.std.proofs.Common.{sym, ◌∙◌, ap, take-take}
+use Rattle.std.proofs.Common.{◌∙◌}
 use Rattle.std.proofs.Math.ListN.{length, length-take}
-use Rattle.std.proofs.Math.Seq.{take-nil}
-use borrow.Author.Tests.{eqb-true, eqb-false, eq-eqb, ne_eqb, ltb-true, le-ltb, le-leb, lt-leb, lt-ltb}
-use Rattle.rules.specs.Lists.{holds, times, one, without}
-use Rattle.theory.specs.Priority.{Priority, Policy, Order, lower}
-use Rattle.theory.specs.Plain.{lowest, evict, refer, cache_after, hits_after, misses_after}
-use Rattle.theory.specs.OnePass.{place, list_after, unlimited, depth, depth_from, within, depth_hits}
-use Rattle.theory.proofs.Bags.{Same, sum, same_holds, same_length, same_times, holds_times}
-use Rattle.theory.proofs.Lowest.{Lowest, lowest_is, lowest_unique}
+use borrow.Author.Tests.{eqb-true, eqb-false, eq-eqb, ne_eqb}
+use Rattle.rules.specs.Lists.{holds, without}
+use Rattle.theory.specs.Priority.{Priority, Order}
+use Rattle.theory.specs.Plain.{lowest, evict, refer}
+use Rattle.theory.specs.OnePass.{place}
+use Rattle.theory.proofs.Bags.{Same, sum, same_holds, same_length}
+use Rattle.theory.proofs.Lowest.{lowest_is, lowest_unique}
 use Rattle.theory.proofs.Carry.{place_found, place_full, place_room}
-use Rattle.theory.proofs.Cut.{first_places}
 use Rattle.rules.specs.Cases.{by_cases, clash}
 
 -- taking a held page out takes its weight out

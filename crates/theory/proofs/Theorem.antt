@@ -1,14 +1,14 @@
 -- One pass counts for every capacity at once (Mattson 1970). The theorems of demand D3, over any policy whose priority is an
 -- order at every moment; Order.antt shows that LRU, LFU and OPT are such policies.
-use Rattle.std.specs.Prelude.{ℕ, zero, suc, ◌+◌, ◌≤◌, ◌<◌, Bool, true, false, cond, not, ◌≡◌, eqb, ltb, length, take}
-use Rattle.std.proofs.Common.{arith, add-suc, sym, ◌∙◌, ap, length-take, take-take, ltb-true, ltb-false, lt-ltb, le-ltb}
+use Rattle.std.specs.Prelude.{ℕ, zero, suc, ◌+◌, ◌≤◌, true, ◌≡◌, eqb, length, take}
+use Rattle.std.proofs.Common.{arith, ◌∙◌, length-take}
 use Rattle.std.proofs.Math.Path.{refl}
 use mathlib.Core.List.{List, [], ◌∷◌}
 use Rattle.rules.specs.Lists.{holds, times, one}
 use Rattle.theory.specs.Priority.{Policy, Order}
 use Rattle.theory.specs.Plain.{cache_after, hits_after, misses_after}
 use Rattle.theory.specs.OnePass.{list_after, unlimited, depth, within, depth_hits}
-use Rattle.theory.proofs.Bags.{Same, same_holds, same_times, holds_times}
+use Rattle.theory.proofs.Bags.{Same, same_holds, same_times}
 use Rattle.theory.proofs.SameStep.{same_step}
 use Rattle.theory.proofs.Once.{cache_once}
 use Rattle.theory.proofs.Depth.{depth_within}

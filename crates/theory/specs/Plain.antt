@@ -1,5 +1,5 @@
 -- The plain cache of c frames (rules C1 to C3), from empty, on the references in order. It knows nothing of the one-pass list.
-use Rattle.std.specs.Prelude.{ℕ, ◌+◌, Bool, cond, not, List, [], ◌∷◌, reverse, eqb, length}
+use Rattle.std.specs.Prelude.{ℕ, ◌+◌, cond, not, List, [], ◌∷◌, reverse, eqb, length}
 use Rattle.rules.specs.Lists.{holds, without, one, values_from}
 use Rattle.theory.specs.Priority.{Priority, Policy, lower}
 use Rattle.theory.specs.Policy.{policy_of}
