@@ -99,7 +99,8 @@ module _ (file : List ℕ) (n : ℕ) (caps refs : List ℕ) where
 
 -- the whole file
 module _ (file caps refs : List ℕ) where
-  pub file_cut : Cut ≡ section capacities file → FileRead (trace_in file) caps refs (Reading.Refused (unplaced cut_file)) caps refs
+  pub file_cut : Cut ≡ section capacities file
+      → FileRead (trace_in file) caps refs (Reading.Refused (unplaced cut_file)) caps refs
   unfolding trace_in
   file_cut e = rw (← e) (record { answered = refl; caps_table = refl; refs_table = refl })
 

@@ -1,7 +1,8 @@
 -- The longest file (docs/RULES.md, F5): no accepted file is longer, and of a longer input its first bytes, one more than the
 -- longest file has, say all.
 use Rattle.std.specs.Prelude.{ℕ, suc, ◌+◌, ◌≤◌, ◌<◌, ◌≡◌, cond, List, ltb, length, take}
-use Rattle.std.proofs.Common.{sym, ap, ◌∙◌, arith, lt-ltb, le-ltb, ltb-true, ltb-false, length-append, length-drop, length-take-le, get_or-take, take_all}
+use Rattle.std.proofs.Common.{sym, ap, ◌∙◌, arith, lt-ltb, le-ltb, ltb-true, ltb-false, length-append, length-drop}
+use Rattle.std.proofs.Common.{length-take-le, get_or-take, take_all}
 use Rattle.rules.specs.Cases.{by_cases}
 use Rattle.rules.specs.Limits.{capacities, references}
 use Rattle.rules.specs.Refusals.{too_many_references, bytes_left}

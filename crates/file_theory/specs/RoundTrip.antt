@@ -14,7 +14,8 @@ use Rattle.file_theory.specs.declared.Section.TheVariants.{Cut, Over, Values}
 use Rattle.file_theory.specs.Format.{section_size, section_values, behind_section}
 use Rattle.file_theory.specs.Encoding.{bytes_of, encode_section, encode}
 use Rattle.file_theory.specs.Decoding.{Outcome, says, refuses, section, rising, unless, pages_answer, pages_of}
-use Rattle.file_theory.specs.Decoding.{references_of, references_in, Trace, with_capacities, trace_behind, trace_of, trace_in}
+use Rattle.file_theory.specs.Decoding.{references_of, references_in, Trace, with_capacities, trace_behind, trace_of}
+use Rattle.file_theory.specs.Decoding.{trace_in}
 use Rattle.file_theory.specs.Words.{Bytes, bytes_drop, length_numbers, length_bytes_of}
 use Rattle.file_theory.specs.Sections.{WholeSection, whole_section}
 use Rattle.file_theory.specs.Sections.{section_encoded, values_encoded, behind_encoded, section_again}
@@ -111,7 +112,8 @@ file_says file t = go (section capacities file) refl
         (record {
           good = record { few = omega (arith, length_numbers n (drop 2 file), f.within); rise = r; good = part.good };
           again = λ all.
-              ap {B = List ℕ} (λ u. encode_section (section_values n file) ++ u) (part.again (bytes_drop (section_size n) file all))
+              ap {B = List ℕ} (λ u. encode_section (section_values n file) ++ u)
+              (part.again (bytes_drop (section_size n) file all))
               ∙ section_again capacities file n all f;
         })
 

@@ -1,6 +1,7 @@
 -- Laws of the numbers of a file (Format, Encoding): how many, which one stands at an index, and that writing numbers as bytes
 -- and reading bytes as numbers undo each other.
-use Rattle.std.specs.Prelude.{ℕ, zero, suc, ◌+◌, ◌-◌, ◌*◌, ◌%◌, ◌/◌, ◌≤◌, ◌<◌, ◌≡◌, refl, List, [], ◌∷◌, ◌++◌, length, get_or, take, drop}
+use Rattle.std.specs.Prelude.{ℕ, zero, suc, ◌+◌, ◌-◌, ◌*◌, ◌%◌, ◌/◌, ◌≤◌, ◌<◌, ◌≡◌, refl, List, [], ◌∷◌, ◌++◌}
+use Rattle.std.specs.Prelude.{length, get_or, take, drop}
 use Rattle.std.proofs.Common.{ap, ap₂, ◌∙◌, not-suc-le-zero, le_of_suc-le-suc, arith, length-drop, get_or-drop, take_all}
 use Rattle.file_theory.specs.Format.{number_at, numbers}
 use Rattle.file_theory.specs.Encoding.{bytes_of}

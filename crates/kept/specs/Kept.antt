@@ -38,7 +38,8 @@ module _ (policy : Policy) (ranking : Ranking) (shown : Priority) (keeps : Keeps
   pub kept_step : (x : ℕ) (past to : List ℕ) → x < 65536 → Below 65536 past
       → kept ranking policy k (x ∷ past) to
       ≡ take k
-      (place_entry shown (entry (ranking past (x ∷ to)) x) (entry (ranking (x ∷ past) to) x) (kept ranking policy k past (x ∷ to)))
+      (place_entry shown (entry (ranking past (x ∷ to)) x) (entry (ranking (x ∷ past) to) x)
+      (kept ranking policy k past (x ∷ to)))
   unfolding kept list_after step
   kept_step x past to hx hp =
       rw (

@@ -1,5 +1,6 @@
 -- The list as it is shown (rules M8, A6): its pages in the order of places, and 0 past its length.
-use Rattle.std.specs.Prelude.{ℕ, zero, suc, ◌+◌, ◌-◌, ◌≤◌, ◌<◌, min, ◌≡◌, refl, List, [], ◌∷◌, ◌++◌, map, length, take, get_or, set, replicate}
+use Rattle.std.specs.Prelude.{ℕ, zero, suc, ◌+◌, ◌-◌, ◌≤◌, ◌<◌, min, ◌≡◌, refl, List, [], ◌∷◌, ◌++◌, map, length}
+use Rattle.std.specs.Prelude.{take, get_or, set, replicate}
 use Rattle.std.proofs.Common.{arith, add-one, ◌∙◌, append_assoc, length-append, take-suc, get_or-append-add, length-take-le}
 use Rattle.std.proofs.lemmas.List.{length-map, set_at}
 use Rattle.std.proofs.Math.Seq.{take-append_seam}

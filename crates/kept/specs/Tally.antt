@@ -1,6 +1,8 @@
 -- How often each depth came: a table with a place for each depth from 0, which stands for "not in the list".
-use Rattle.std.specs.Prelude.{ℕ, zero, suc, ◌+◌, ◌≤◌, ◌<◌, false, ◌≡◌, refl, List, [], ◌∷◌, eqb, leb, ltb, length, get_or, set, replicate}
-use Rattle.std.proofs.Common.{arith, add-one, sym, ◌∙◌, length-set, get_or-set_same, get_or-set_other, ltb-true, ltb-false, eqb-true, leb-true, leb-false, le-leb}
+use Rattle.std.specs.Prelude.{ℕ, zero, suc, ◌+◌, ◌≤◌, ◌<◌, false, ◌≡◌, refl, List, [], ◌∷◌, eqb, leb, ltb, length}
+use Rattle.std.specs.Prelude.{get_or, set, replicate}
+use Rattle.std.proofs.Common.{arith, add-one, sym, ◌∙◌, length-set, get_or-set_same, get_or-set_other, ltb-true}
+use Rattle.std.proofs.Common.{ltb-false, eqb-true, leb-true, leb-false, le-leb}
 use Rattle.std.proofs.lemmas.List.{length-replicate}
 use Rattle.std.proofs.Math.Seq.{set_out}
 use Rattle.std.proofs.lemmas.Bool.{eqb-false, lt-leb}
@@ -61,7 +63,8 @@ up_to_bump d (suc c) table h =
     (λ e. elsewhere (eqb-false (suc c) d e) (up_to_bump d c table (omega arith)))
   where
     at_place : suc c ≡ d → up_to (bump d table) c ≡ up_to table c + one (within d c)
-        → up_to (bump d table) c + get_or (bump d table) (suc c) 0 ≡ up_to table c + get_or table (suc c) 0 + one (within d (suc c))
+        → up_to (bump d table) c + get_or (bump d table) (suc c) 0
+        ≡ up_to table c + get_or table (suc c) 0 + one (within d (suc c))
     at_place e i =
         rw (
           i,
@@ -73,7 +76,8 @@ up_to_bump d (suc c) table h =
         ) (omega arith)
 
     elsewhere : (suc c ≡ d → ⊥) → up_to (bump d table) c ≡ up_to table c + one (within d c)
-        → up_to (bump d table) c + get_or (bump d table) (suc c) 0 ≡ up_to table c + get_or table (suc c) 0 + one (within d (suc c))
+        → up_to (bump d table) c + get_or (bump d table) (suc c) 0
+        ≡ up_to table c + get_or table (suc c) 0 + one (within d (suc c))
     elsewhere n i = rw (i, bump_other d (suc c) table n, one_further d c n) (omega arith)
 
 pub zeros_at : (n d : ℕ) → get_or {A = ℕ} (replicate n 0) d 0 ≡ 0

@@ -63,4 +63,7 @@ opt_again p q past to hp hq =
 pub opt_never : (p q : ℕ) (past to : List ℕ) → holds p to ≡ false → holds q to ≡ false → p < q → opt past to p q ≡ true
 unfolding opt smaller
 opt_never p q past to hp hq l =
-    rw (by_more_equal (λ r. nearness r to) smaller p q (omega (arith, nearness_none p to hp, nearness_none q to hq)), lt-ltb p q l)
+    rw (
+      by_more_equal (λ r. nearness r to) smaller p q (omega (arith, nearness_none p to hp, nearness_none q to hq)),
+      lt-ltb p q l,
+    )
