@@ -1,4 +1,5 @@
 -- A law for each return: what was checked on the way decides the answer and the table.
+use Rattle.std.proofs.Common.{arith}
 use Rattle.count.proofs.CountLaws.{count_limits, count_short, count_bad, count_fit, count_done}
 use Rattle.count.proofs.count.Goals as goal
 
@@ -19,8 +20,9 @@ returns-then-bad-trace c =
 
 pub run_policy-run-requires : goal.run_policy-run-requires
 run_policy-run-requires c =
-    count_fit _ c.args.policy _ _ c.args.hits.now c.limits-number.ensures c.if-number-ne0.false
-    c.if-hits-k.false _ c.first_bad-bad.ensures c.if-bad-trace.false
+    let fit = count_fit _ c.args.policy _ _ c.args.hits.now c.limits-number.ensures c.if-number-ne0.false
+    c.if-hits-k.false _ c.first_bad-bad.ensures c.if-bad-trace.false in
+    record { low = fit.low; high = fit.high; short = fit.short; good = fit.good; within = omega arith }
 
 pub returns : goal.returns
 returns c =
