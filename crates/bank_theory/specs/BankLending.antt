@@ -1,12 +1,12 @@
 -- What the steps of a call under banks ask and leave (docs/RULES.md, B2, B3).
-use Rattle.std.specs.Prelude.{ℕ, zero, suc, ◌+◌, ◌*◌, ◌<◌, ◌≤◌, ◌≡◌, List, get_or}
+use Rattle.std.specs.Prelude.{ℕ, zero, suc, ◌+◌, ◌*◌, ◌<◌, ◌≤◌, ◌≡◌, Bool, cond, ◌&&◌, List, leb, ltb, length, get_or}
 use Rattle.rules.specs.Limits.{frames, banks, bank_frames}
 use Rattle.row_theory.specs.Row.{Row, after}
 use Rattle.row_theory.specs.Promise.{Memory, row_in, Stands, asked}
 use Rattle.row_theory.specs.declared.Event.TheVariants.{Drop}
 use Rattle.bank_theory.specs.Banks.{off, closing, busy_from}
 use Rattle.bank_theory.specs.BankPromise.{BankMemory, StandsUnder}
-use Rattle.bank_theory.specs.GateLaws.{Stored}
+use Rattle.bank_theory.specs.BankTest.{gate_sound}
 
 -- the row after drops of so many frames from a number on
 unfoldable pub dropping : ℕ → ℕ → Row → Row
@@ -41,6 +41,15 @@ pub record DroppedTo (m : Memory) (first at : ℕ) (m' : Memory) : Type 0 where
   pub room : at ≤ first + bank_frames
   pub dropped : Dropped m first many m'
 
+-- the frames of a range
+unfoldable pub within : ℕ → ℕ → ℕ → Bool
+within first many frame = leb first frame && ltb frame (first + many)
+
+-- so many gates from a frame on have been stored
+pub record Stored (gates : List ℕ) (first many state : ℕ) (gates' : List ℕ) : Type 0 where
+  pub long : length gates' ≡ length gates
+  pub at : (frame : ℕ) → get_or gates' frame off ≡ cond (within first many frame) state (get_or gates frame off)
+
 -- all before it have their bank's state at their gates
 pub record StoredTo (gates : List ℕ) (first at state : ℕ) (gates' : List ℕ) : Type 0 where
   pub many : ℕ
@@ -53,3 +62,7 @@ pub record Closing (m : BankMemory) (bank : ℕ) : Type 0 where
   pub stands : StandsUnder m
   pub small : bank < banks
   pub gate : get_or m.gates (bank * bank_frames) off ≡ closing
+
+-- one gate has been tested
+pub record GateTested (gates states : List ℕ) (first frame : ℕ) (r : Bool) : Type 0 where
+  pub is : r ≡ gate_sound gates states first frame

@@ -1,6 +1,5 @@
--- The test of a row under banks in lent memory (docs/RULES.md, X6): the row's test, and a test of
--- each frame's gate, bank by bank. A row under
--- banks passes it exactly if fresh banks and calls give it (BankTestLaws).
+-- The test of a row under banks in lent memory (docs/RULES.md, X6): the row's test, and a test of each frame's
+-- gate, bank by bank. A row under banks passes it exactly if fresh banks and calls give it (proofs/BankTestLaws.antt).
 use Rattle.std.specs.Prelude.{ℕ, ◌+◌, ◌*◌, ◌≡◌, Bool, true, cond, ◌&&◌, List, leb, eqb, get_or}
 use Rattle.rules.specs.Limits.{bank_frames}
 use Rattle.rules.specs.Limits

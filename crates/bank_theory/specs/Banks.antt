@@ -1,7 +1,8 @@
 -- Banks of frames (docs/RULES.md, L8, B1 to B3, O7, O8): which bank a frame lies in, the states of banks, when a call is
 -- refused, and what an accepted one makes of the states of frames and banks. Nothing here knows of slots, as the imports
 -- show.
-use Rattle.std.specs.Prelude.{ℕ, zero, suc, ◌*◌, ◌/◌, Bool, true, false, cond, not, ◌&&◌, ◌||◌, List, leb, ltb, eqb, get_or, set, replicate}
+use Rattle.std.specs.Prelude.{ℕ, zero, suc, ◌*◌, ◌/◌, Bool, true, false, cond, not, ◌&&◌, ◌||◌, List, leb, ltb, eqb}
+use Rattle.std.specs.Prelude.{get_or, set, replicate}
 use Rattle.rules.specs.Limits.{frames, bank_frames}
 use Rattle.rules.specs.Limits
 use Rattle.rules.specs.Refusals.{wrong_bank_state, bank_busy, bad_bank, bank_not_open}

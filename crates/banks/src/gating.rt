@@ -5,8 +5,7 @@ ghost use Rattle.rules.specs.Limits.{frames, bank_frames};
 ghost use Rattle.rules.specs.Refusals.{wrong_bank_state};
 ghost use Rattle.row_theory.specs.Promise.{Stands, memory};
 ghost use Rattle.bank_theory.specs.Banks.{gated_to as «gated_to_of», busy_from as «busy_from_of»};
-ghost use Rattle.bank_theory.specs.BankLending.{Leavable, DroppedOne, Dropped};
-ghost use Rattle.bank_theory.specs.GateLaws.{Stored};
+ghost use Rattle.bank_theory.specs.BankLending.{Leavable, DroppedOne, Dropped, Stored};
 
 use bank_theory::{CLOSING, Gating, OFF, OPEN};
 use row_theory::{BUSY, Event, IDLE, PerFrame, PerSlot};
@@ -23,6 +22,7 @@ fn allowed(may: bool, to: u8) -> u8
 }
 
 // The state that the call gives a bank in this state, or 30.
+#[tactic(auto, unfolding(bank_theory::specs::Banks::gated_to))]
 pub(crate) fn gated_to(gating: Gating, state: u8) -> u8
     ensures { result ≡ «gated_to_of» gating state }
 {

@@ -13,7 +13,8 @@ ghost use Rattle.row_theory.specs.Row.{has_mark};
 ghost use Rattle.row_theory.specs.Promise.{asked, memory, row_with};
 ghost use Rattle.bank_theory.specs.Banks.{of_frame, of_bank, needs_open as «needs_open_of», shut_out};
 ghost use Rattle.bank_theory.specs.Gated.{refused_reply};
-ghost use Rattle.bank_theory.specs.BankPromise.{gated_with, ReachedGates, StandsUnder, AnsweredUnder, FreshBanks, OldestOpen, bank_memory};
+ghost use Rattle.bank_theory.specs.BankPromise.{gated_with, ReachedGates, StandsUnder, AnsweredUnder, FreshBanks, OldestOpen};
+ghost use Rattle.bank_theory.specs.BankPromise.{bank_memory};
 ghost use Rattle.bank_theory.specs.BankLending.{Closing};
 ghost use Rattle.bank_theory.specs.declared.Gating.TheVariants.{Cut};
 
@@ -59,6 +60,7 @@ fn needs_open(event: Event) -> bool
 }
 
 // Is this such a call in a bank that is not open (rule B3)? A number that is no frame's is the row's to refuse.
+#[tactic(auto, using(bank_theory::proofs::BankStepLaws::shut_laws))]
 fn shut(gates: &PerFrame, event: Event, frame: u8) -> bool
     ensures { result ≡ shut_out (has_mark gates.now) (asked event frame) }
 {
@@ -83,8 +85,9 @@ pub fn call(
     event: Event,
     frame: Frame,
 ) -> Reply
-    requires { StandsUnder (bank_memory (memory slots.old places.old states.old front.old held.old) gates.old) }
-    ensures { AnsweredUnder (bank_memory (memory slots.old places.old states.old front.old held.old) gates.old) (of_frame (asked event frame.0)) result
+    requires { StandsUnder (bank_memory (memory slots.old places.old states.old front.old held.old) gates.now) }
+    ensures { AnsweredUnder (bank_memory (memory slots.old places.old states.old front.old held.old) gates.now)
+        (of_frame (asked event frame.0)) result
         (bank_memory (memory slots.new places.new states.new front.new held.new) gates.now) }
 {
     if shut(gates, event, frame.0) {
@@ -104,7 +107,8 @@ fn cut(
     bank: u8,
 ) -> Reply
     requires { Closing (bank_memory (memory slots.old places.old states.old front.old held.old) gates.old) bank }
-    ensures { AnsweredUnder (bank_memory (memory slots.old places.old states.old front.old held.old) gates.old) (of_bank Cut bank) result
+    ensures { AnsweredUnder (bank_memory (memory slots.old places.old states.old front.old held.old) gates.old)
+        (of_bank Cut bank) result
         (bank_memory (memory slots.new places.new states.new front.new held.new) gates.new) }
 {
     let first = bank * BANK_FRAMES;
@@ -128,7 +132,8 @@ pub fn gate(
     bank: Bank,
 ) -> Reply
     requires { StandsUnder (bank_memory (memory slots.old places.old states.old front.old held.old) gates.old) }
-    ensures { AnsweredUnder (bank_memory (memory slots.old places.old states.old front.old held.old) gates.old) (of_bank gating bank.0) result
+    ensures { AnsweredUnder (bank_memory (memory slots.old places.old states.old front.old held.old) gates.old)
+        (of_bank gating bank.0) result
         (bank_memory (memory slots.new places.new states.new front.new held.new) gates.new) }
 {
     let b = bank.0;

@@ -1,10 +1,10 @@
 // The test of a row under banks in lent memory (rule X6): the row's test, and one pass over the gates. It is exact: memory
-// passes it exactly if fresh banks and calls give it (specs/BankTestLaws.antt of `bank_theory`).
+// passes it exactly if fresh banks and calls give it (proofs/BankTestLaws.antt of `bank_theory`).
 ghost use Rattle.std.specs.Prelude.{◌≡◌, ◌<◌, length};
 ghost use Rattle.rules.specs.Limits.{frames, banks as bank_count};
 ghost use Rattle.rules.specs.AllBelow.{all_below};
 ghost use Rattle.bank_theory.specs.BankTest.{bank_sound as «bank_sound_of», BanksTested};
-ghost use Rattle.bank_theory.specs.BankTestLaws.{GateTested};
+ghost use Rattle.bank_theory.specs.BankLending.{GateTested};
 ghost use Rattle.bank_theory.specs.BankPromise.{bank_memory};
 ghost use Rattle.row_theory.specs.Promise.{memory};
 

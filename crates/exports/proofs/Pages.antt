@@ -1,11 +1,8 @@
 -- The page numbers of an array of pages, one place after the other.
-use Prim.Native.Nat.{ℕ, suc, ◌+◌, ◌-◌, ◌≤◌, ◌<◌}
-use native.Mathlib.Omega.{arith}
-use native.Mathlib.Numerals.{add-one}
-use mathlib.Core.Path.{◌≡◌, refl, ◌∙◌}
-use mathlib.Core.List.{List, [], ◌∷◌, ◌++◌, map, append_assoc, append-nil}
-use lib.ListN.{length, take, get_or, set, replicate, length-map}
-use lib.Seq.{take-suc, take_all, set_at, length-take-le}
+use Rattle.std.specs.Prelude.{ℕ, suc, ◌+◌, ◌-◌, ◌≤◌, ◌<◌, ◌≡◌, List, [], ◌∷◌, ◌++◌, map, length, replicate, get_or, set}
+use Rattle.std.proofs.Common.{arith, add-one, refl, ◌∙◌, take, append_assoc}
+use Rattle.std.proofs.Math.Seq.{take-suc}
+use Rattle.std.proofs.lemmas.List.{append-nil, length-map, map-append, set_at, take_all, length-take-le}
 use Rattle.rules.specs.Limits.{capacities}
 use Rattle.rules.specs.declared.Page.{Page}
 use Rattle.exports.specs.Trace.{page_number}
@@ -13,10 +10,6 @@ use Rattle.exports.specs.Trace.{page_number}
 -- the numbers of the first i pages, and 0 behind them
 unfoldable pub numbers_of : List Page → ℕ → List ℕ
 numbers_of shown i = map page_number (take i shown) ++ replicate (capacities - i) 0
-
-map_snoc : (l : List Page) (p : Page) → map page_number (l ++ (p ∷ [])) ≡ map page_number l ++ (page_number p ∷ [])
-map_snoc [] p = refl
-map_snoc (q ∷ l) p = rw (map_snoc l p)
 
 module _ (shown : List Page) (room : length shown ≡ capacities) where
   pub numbers_start : replicate capacities 0 ≡ numbers_of shown 0
@@ -37,7 +30,7 @@ module _ (shown : List Page) (room : length shown ≡ capacities) where
         set_at (map page_number (take i shown)) 0 (replicate (capacities - suc i) 0) here i long,
         add-one i,
         take-suc shown i p (omega arith),
-        map_snoc (take i shown) (get_or shown i p),
+        map-append page_number (take i shown) (get_or shown i p ∷ []),
         append_assoc (map page_number (take i shown)) (here ∷ []) (replicate (capacities - suc i) 0),
       )
 

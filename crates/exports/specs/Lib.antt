@@ -7,11 +7,9 @@ pub mod File
 pub mod Session
 -- What tests it: memory that nobody started a session in.
 pub mod MarkedSessions
--- Laws: that the proved functions' promises give these, of numbers of 32 bits too, that two answers that meet one are
--- equal, and that what one call leaves passes the next one's test.
+-- Laws: that the proved functions' promises give these, of numbers of 32 bits too, and that two answers that meet one are
+-- equal. Those of a session's calls stand in proofs/.
 pub mod Narrow
 pub mod TraceLaws
 pub mod FileLaws
-pub mod SessionLaws
 pub mod Once
-pub mod Driving

@@ -18,4 +18,5 @@ page_number p = p.0
 -- the value is the list's length; a refusal leaves the places as they were (A3)
 pub record ListTold (trace : List ℕ) (policy k t : ℕ) (before after : List ℕ) (answer : Told) : Type 0 where
   pub answered : answer ≡ told_with (list_answer policy k trace t) (length (list_shown policy k trace t))
-  pub places : after ≡ when_accepted (list_answer policy k trace t) (map page_number (places_of (list_shown policy k trace t))) before
+  pub places : after
+      ≡ when_accepted (list_answer policy k trace t) (map page_number (places_of (list_shown policy k trace t))) before

@@ -2,7 +2,7 @@
 // reference write it.
 ghost use Rattle.std.specs.Prelude.{◌≡◌};
 ghost use Rattle.rules.specs.Told.{told};
-ghost use Rattle.exports.specs.Lent.{started_at_entry, started_at_exit, session_at_entry, session_at_exit};
+ghost use Rattle.exports.specs.Lent.{session_in};
 ghost use Rattle.exports.specs.Session.{told_depth, StartTold, ReferTold};
 
 use crate::unsound;
@@ -41,8 +41,8 @@ pub extern "C" fn musselrung_session_start_parts(
     counts: &mut [u16; PAGES as usize],
 ) -> u32
     ensures { StartTold wanted limit
-        (started_at_entry policy k length references places depths counts)
-        (started_at_exit policy k length references places depths counts) result }
+        (session_in policy.old k.old length.old references.old places.old depths.old counts.old)
+        (session_in policy.new k.new length.new references.new places.new depths.new counts.new) result }
 {
     let started = session::start(rules::byte_of(wanted), limit, places, depths, counts);
     match started {
@@ -72,8 +72,8 @@ pub extern "C" fn musselrung_session_refer_parts(
     value: &mut usize,
 ) -> u32
     ensures { ReferTold
-        (session_at_entry policy k length references places depths counts) page
-        (session_at_exit policy k length references places depths counts) (told result value.new) }
+        (session_in policy k length.old references.old places.old depths.old counts.old) page
+        (session_in policy k length.new references.new places.new depths.new counts.new) (told result value.new) }
 {
     let s = Session {
         policy,

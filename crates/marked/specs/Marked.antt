@@ -6,7 +6,7 @@ use Rattle.theory.proofs.MarkedCounts.{counted, p1, p2, p3, p4, p5, p6}
 use Rattle.count.specs.MarkedAnswers.{refused_as, p7, p8}
 use Rattle.row_theory.specs.Runs.{answers_of, victim_after_calls}
 use Rattle.bank_theory.specs.BankRuns.{replies_of, victim_after_steps}
-use Rattle.bank_theory.specs.MarkedBanks.{p13, p14, p15}
+use Rattle.bank_theory.proofs.MarkedBanks.{p13, p14, p15}
 use Rattle.marked.specs.MarkedRows.{puts, p9, p10, p11, p12}
 
 abbrev pub table : List Case

@@ -14,11 +14,11 @@ use Rattle.bank_theory.specs.BankHistory.{Seen}
 use Rattle.bank_theory.specs.Gated.{Gated, gated_then, reply_under, victim_under}
 use Rattle.bank_theory.specs.BankRuns.{gated_after}
 use Rattle.bank_theory.specs.BankPromise.{BankMemory, bank_memory, gates_of, gated_in, StandsUnder, AnsweredUnder, OldestOpen}
-use Rattle.bank_theory.specs.BankPromiseLaws.{number_under, row_stands}
-use Rattle.bank_theory.specs.UnderBanks.{same_seen}
-use Rattle.bank_theory.specs.Powered.{powered_after}
-use Rattle.bank_theory.specs.GateLaws.{banks_of_gates}
-use Rattle.bank_theory.specs.BankTheorems.{victim_under_says}
+use Rattle.bank_theory.proofs.BankPromiseLaws.{number_under, row_stands}
+use Rattle.bank_theory.proofs.UnderBanks.{same_seen}
+use Rattle.bank_theory.proofs.Powered.{powered_after}
+use Rattle.bank_theory.proofs.GateLaws.{banks_of_gates}
+use Rattle.bank_theory.proofs.BankTheorems.{victim_under_says}
 use Rattle.bank_theory.specs.BankTest.{banks_sound, BanksTested}
 use Rattle.row_exports.specs.Told.{replied_of, chosen_of}
 use Rattle.row_exports.specs.RowLaws.{stands_left, told_number}
@@ -33,7 +33,8 @@ gated_again history =
     let banks = banks_of_gates (gated_after history).banks (ap length long ∙ (powered_after history).long) in
     λ i. record { row = (gated_after history).row; banks = banks i }
 
-pub left_gated : {m : BankMemory} (history : List Step) → m ≡ memory_under (gated_after history) → gated_in m ≡ gated_after history
+pub left_gated : {m : BankMemory} (history : List Step) → m ≡ memory_under (gated_after history) →
+    gated_in m ≡ gated_after history
 left_gated history left = ap gated_in left ∙ gated_again history
 
 -- memory that fresh banks and calls left is such as its own state's
@@ -55,7 +56,8 @@ stands_left_under {m} stands =
 
 -- what the definitions' answer and memory say of the calls before
 pub banks_says : (history : List Step) (step : Step) →
-    BanksSays history step (replied_of (reply_under (gated_after history) step)) (memory_under (gated_then (gated_after history) step))
+    BanksSays history step (replied_of (reply_under (gated_after history) step))
+    (memory_under (gated_then (gated_after history) step))
 unfolding gated_after
 banks_says history step =
     record {

@@ -28,8 +28,8 @@ abbrev shown : Told → List ℕ
 shown t = t.number ∷ t.value ∷ []
 
 unfoldable pub put_told : Memory → ℕ → List ℕ
-unfolding row_sound slot_sound frame_sound place_sound room_sound all_below frames_in held_in held_bit reply_of accepts verdict_of table_at
-    refusal_of examined_then
+unfolding row_sound slot_sound frame_sound place_sound room_sound all_below frames_in held_in held_bit reply_of accepts
+    verdict_of table_at refusal_of examined_then
 put_told m frame = shown (tested_told (row_sound m) (replied_of (reply_of (row_in m) (asked Put frame))))
 
 unfoldable pub put_told_under : BankMemory → ℕ → List ℕ

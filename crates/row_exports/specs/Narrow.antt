@@ -56,7 +56,8 @@ unfolding reply_under
 frame_reply gated event frame past =
     rw (not_shut gated.banks event frame past) (bad_reply gated.row event frame past)
 
-frame_next : (gated : Gated) (event : Event) (frame : ℕ) → frames ≤ frame → gated_then gated (of_frame (asked event frame)) ≡ gated
+frame_next : (gated : Gated) (event : Event) (frame : ℕ) → frames ≤ frame →
+    gated_then gated (of_frame (asked event frame)) ≡ gated
 unfolding gated_then row_under banks_under
 frame_next gated event frame past =
     let row = bad_after gated.row event frame past in

@@ -18,13 +18,14 @@ use Rattle.row_theory.proofs.TestLaws.{sound_stands, stands_sound}
 use Rattle.row_theory.specs.declared.Event.{Event}
 use Rattle.row_theory.specs.declared.Event.TheVariants.{Put, Touch, Start, End, Drop}
 use Rattle.bank_theory.specs.declared.Gating.{Gating}
-use Rattle.bank_theory.specs.Banks.{Step, of_frame, of_bank, gated_to, bank_state, is_cut, busy_in, gating_refusal, shut, refusal_under}
+use Rattle.bank_theory.specs.Banks.{Step, of_frame, of_bank, gated_to, bank_state, is_cut, busy_in, gating_refusal}
+use Rattle.bank_theory.specs.Banks.{shut, refusal_under}
 use Rattle.bank_theory.specs.Gated.{reply_under}
 use Rattle.bank_theory.specs.BankRuns.{gated_after}
 use Rattle.bank_theory.specs.BankPromise.{BankMemory, gated_in, FreshBanks}
-use Rattle.bank_theory.specs.BankPromiseLaws.{number_under}
+use Rattle.bank_theory.proofs.BankPromiseLaws.{number_under}
 use Rattle.bank_theory.specs.BankTest.{banks_sound}
-use Rattle.bank_theory.specs.BankTestLaws.{SizedUnder, sound_stands_under, stands_sound_under}
+use Rattle.bank_theory.proofs.BankTestLaws.{SizedUnder, sound_stands_under, stands_sound_under}
 use Rattle.row_exports.specs.RowTold.{memory_of, RowTold}
 use Rattle.row_exports.specs.BanksTold.{memory_under, BanksTold}
 use Rattle.row_exports.specs.RowLaws.{left_stands, stands_left, told_number}

@@ -26,8 +26,9 @@ fn call(
     frame: u32,
     value: &mut usize,
 ) -> u32
-    ensures { BanksTold (bank_memory (memory slots.old places.old states.old front.old held.old) gates.old) (of_frame (asked event frame))
-        (told result value.new) (bank_memory (memory slots.new places.new states.new front.new held.new) gates.now) }
+    ensures { BanksTold (bank_memory (memory slots.old places.old states.old front.old held.old) gates.now)
+        (of_frame (asked event frame)) (told result value.new)
+        (bank_memory (memory slots.new places.new states.new front.new held.new) gates.now) }
 {
     if !banks::sound(slots, places, states, *front, *held, gates) {
         return unsound(value);
@@ -57,8 +58,9 @@ fn gate(
     bank: u32,
     value: &mut usize,
 ) -> u32
-    ensures { BanksTold (bank_memory (memory slots.old places.old states.old front.old held.old) gates.old) (of_bank gating bank)
-        (told result value.new) (bank_memory (memory slots.new places.new states.new front.new held.new) gates.new) }
+    ensures { BanksTold (bank_memory (memory slots.old places.old states.old front.old held.old) gates.old)
+        (of_bank gating bank) (told result value.new)
+        (bank_memory (memory slots.new places.new states.new front.new held.new) gates.new) }
 {
     if !banks::sound(slots, places, states, *front, *held, gates) {
         return unsound(value);
@@ -103,8 +105,9 @@ pub extern "C" fn musselrung_banks_put_parts(
     frame: u32,
     value: &mut usize,
 ) -> u32
-    ensures { BanksTold (bank_memory (memory slots.old places.old states.old front.old held.old) gates.old) (of_frame (asked Put frame))
-        (told result value.new) (bank_memory (memory slots.new places.new states.new front.new held.new) gates.now) }
+    ensures { BanksTold (bank_memory (memory slots.old places.old states.old front.old held.old) gates.now)
+        (of_frame (asked Put frame)) (told result value.new)
+        (bank_memory (memory slots.new places.new states.new front.new held.new) gates.now) }
 {
     call(
         slots,
@@ -131,8 +134,9 @@ pub extern "C" fn musselrung_banks_touch_parts(
     frame: u32,
     value: &mut usize,
 ) -> u32
-    ensures { BanksTold (bank_memory (memory slots.old places.old states.old front.old held.old) gates.old) (of_frame (asked Touch frame))
-        (told result value.new) (bank_memory (memory slots.new places.new states.new front.new held.new) gates.now) }
+    ensures { BanksTold (bank_memory (memory slots.old places.old states.old front.old held.old) gates.now)
+        (of_frame (asked Touch frame)) (told result value.new)
+        (bank_memory (memory slots.new places.new states.new front.new held.new) gates.now) }
 {
     call(
         slots,
@@ -159,8 +163,9 @@ pub extern "C" fn musselrung_banks_start_parts(
     frame: u32,
     value: &mut usize,
 ) -> u32
-    ensures { BanksTold (bank_memory (memory slots.old places.old states.old front.old held.old) gates.old) (of_frame (asked Start frame))
-        (told result value.new) (bank_memory (memory slots.new places.new states.new front.new held.new) gates.now) }
+    ensures { BanksTold (bank_memory (memory slots.old places.old states.old front.old held.old) gates.now)
+        (of_frame (asked Start frame)) (told result value.new)
+        (bank_memory (memory slots.new places.new states.new front.new held.new) gates.now) }
 {
     call(
         slots,
@@ -187,8 +192,9 @@ pub extern "C" fn musselrung_banks_end_parts(
     frame: u32,
     value: &mut usize,
 ) -> u32
-    ensures { BanksTold (bank_memory (memory slots.old places.old states.old front.old held.old) gates.old) (of_frame (asked End frame))
-        (told result value.new) (bank_memory (memory slots.new places.new states.new front.new held.new) gates.now) }
+    ensures { BanksTold (bank_memory (memory slots.old places.old states.old front.old held.old) gates.now)
+        (of_frame (asked End frame)) (told result value.new)
+        (bank_memory (memory slots.new places.new states.new front.new held.new) gates.now) }
 {
     call(
         slots,
@@ -215,8 +221,9 @@ pub extern "C" fn musselrung_banks_drop_parts(
     frame: u32,
     value: &mut usize,
 ) -> u32
-    ensures { BanksTold (bank_memory (memory slots.old places.old states.old front.old held.old) gates.old) (of_frame (asked Drop frame))
-        (told result value.new) (bank_memory (memory slots.new places.new states.new front.new held.new) gates.now) }
+    ensures { BanksTold (bank_memory (memory slots.old places.old states.old front.old held.old) gates.now)
+        (of_frame (asked Drop frame)) (told result value.new)
+        (bank_memory (memory slots.new places.new states.new front.new held.new) gates.now) }
 {
     call(
         slots,
@@ -243,8 +250,9 @@ pub extern "C" fn musselrung_banks_close_parts(
     bank: u32,
     value: &mut usize,
 ) -> u32
-    ensures { BanksTold (bank_memory (memory slots.old places.old states.old front.old held.old) gates.old) (of_bank Close bank)
-        (told result value.new) (bank_memory (memory slots.new places.new states.new front.new held.new) gates.new) }
+    ensures { BanksTold (bank_memory (memory slots.old places.old states.old front.old held.old) gates.old)
+        (of_bank Close bank) (told result value.new)
+        (bank_memory (memory slots.new places.new states.new front.new held.new) gates.new) }
 {
     gate(
         slots,
@@ -271,8 +279,9 @@ pub extern "C" fn musselrung_banks_cut_parts(
     bank: u32,
     value: &mut usize,
 ) -> u32
-    ensures { BanksTold (bank_memory (memory slots.old places.old states.old front.old held.old) gates.old) (of_bank Cut bank)
-        (told result value.new) (bank_memory (memory slots.new places.new states.new front.new held.new) gates.new) }
+    ensures { BanksTold (bank_memory (memory slots.old places.old states.old front.old held.old) gates.old)
+        (of_bank Cut bank) (told result value.new)
+        (bank_memory (memory slots.new places.new states.new front.new held.new) gates.new) }
 {
     gate(
         slots,
@@ -299,8 +308,9 @@ pub extern "C" fn musselrung_banks_open_parts(
     bank: u32,
     value: &mut usize,
 ) -> u32
-    ensures { BanksTold (bank_memory (memory slots.old places.old states.old front.old held.old) gates.old) (of_bank Open bank)
-        (told result value.new) (bank_memory (memory slots.new places.new states.new front.new held.new) gates.new) }
+    ensures { BanksTold (bank_memory (memory slots.old places.old states.old front.old held.old) gates.old)
+        (of_bank Open bank) (told result value.new)
+        (bank_memory (memory slots.new places.new states.new front.new held.new) gates.new) }
 {
     gate(
         slots,

@@ -49,6 +49,7 @@ pub(crate) fn unsound(value: &mut usize) -> u32
 }
 
 // A test: 1 where it passes, 0 where it fails.
+#[tactic(auto, unfolding(rules::specs::Lists::one))]
 pub(crate) fn tell_test(passes: bool) -> u32
     ensures { result ≡ one passes }
 {

@@ -1,0 +1,5 @@
+-- Laws of the definitions in specs/, apart from them so that a changed definition is refused by what no longer holds.
+-- A replay is a count, and its answer is unique:
+pub mod Promises
+-- The loop over the trace, the hit table, the promise answer by answer:
+pub mod ReplayLaws
