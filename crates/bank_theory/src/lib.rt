@@ -1,5 +1,5 @@
-// Banks of frames (rules B1 to B6): the states of a bank, and the kind of call that gates its power. The definitions and the
-// theory of call histories stand in specs/; the calls are in `banks`.
+// Banks of frames (rules B1 to B6): the states of a bank, and the kind of call that gates its power. The definitions stand in
+// specs/, and the theory of call histories in proofs/; the calls are in `banks`.
 #![tactic(auto)]
 
 // The states of a bank (rule B1).
