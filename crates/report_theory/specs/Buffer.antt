@@ -1,6 +1,7 @@
 -- Writing text into a buffer: what the buffer holds after it, and that two texts written one after the other are one text.
 use Rattle.std.specs.Prelude.{ℕ, ◌+◌, ◌≤◌, ◌<◌, ◌≡◌, List, [], ◌∷◌, ◌++◌, length, get_or, take, drop, set}
-use Rattle.std.proofs.Common.{sym, ap, ◌∙◌, append_assoc, zero-add, add-zero, add-one, arith, length-append, length-drop, take-append-drop, length-take-le, take-suc, take_at, drop_at, drop-drop}
+use Rattle.std.proofs.Common.{sym, ap, ◌∙◌, append_assoc, zero-add, add-zero, add-one, arith, length-append}
+use Rattle.std.proofs.Common.{length-drop, take-append-drop, length-take-le, take-suc, take_at, drop_at, drop-drop}
 use Rattle.std.proofs.lemmas.List.{set_split}
 
 -- the buffer with some text from a place on

@@ -1,5 +1,6 @@
 -- Laws of the report's lines: read off three hit tables, one line more, and how long they are.
-use Rattle.std.specs.Prelude.{ℕ, zero, suc, ◌-◌, ◌*◌, ◌^◌, ◌≤◌, ◌<◌, ◌≡◌, refl, Bool, true, false, ◌&&◌, leb, ltb, length, get_or, take}
+use Rattle.std.specs.Prelude.{ℕ, zero, suc, ◌-◌, ◌*◌, ◌^◌, ◌≤◌, ◌<◌, ◌≡◌, refl, Bool, true, false, ◌&&◌, leb, ltb}
+use Rattle.std.specs.Prelude.{length, get_or, take}
 use Rattle.std.proofs.Math.Path.{sym, ap}
 use Rattle.std.proofs.Common.{◌∙◌, add-zero, sub-one, leb-true, take-suc, length-take-le}
 use mathlib.Core.List.{List, [], ◌∷◌, ◌++◌, append_assoc, append-nil}
@@ -62,7 +63,8 @@ module _ (a b c : List ℕ) where
       → table_lines (take (suc i) ks) ≡ table_lines (take i ks) ++ table_line (get_or ks i 0)
   lines_more ks i h = rw (take-suc ks i 0 h) (lines_snoc (take i ks) (get_or ks i 0))
 
-  pub lines_short : Fits32 a → Fits32 b → Fits32 c → (ks : List ℕ) → Fits32 ks → length (table_lines ks) ≤ longest_line * length ks
+  pub lines_short : Fits32 a → Fits32 b → Fits32 c → (ks : List ℕ) → Fits32 ks
+      → length (table_lines ks) ≤ longest_line * length ks
   unfolding table_lines
   lines_short fa fb fc [] f = omega arith
   lines_short fa fb fc (k ∷ ks) f =
