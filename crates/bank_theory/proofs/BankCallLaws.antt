@@ -1,16 +1,16 @@
 -- Fresh banks, a frame call and a victim under banks on lent memory, from their tests to their promises (docs/RULES.md, B1, B3,
 -- B4, O7).
-use Rattle.std.specs.Prelude.{ℕ, ◌≡◌, Bool, true, false, List, []}
+use Rattle.std.specs.Prelude.{ℕ, ◌≡◌, Bool, true, false, List, [], Result, Err}
 use Rattle.std.proofs.Common.{sym, ◌∙◌, ap}
-use Rattle.rules.specs.Refusals.{bank_not_open}
+use Rattle.rules.specs.declared.Frame.{Frame}
+use Rattle.rules.specs.declared.refusal.Refusal.{Refusal}
+use Rattle.rules.specs.declared.refusal.Refusal.TheVariants.{BankNotOpen}
 use Rattle.row_theory.specs.States.{Call}
 use Rattle.row_theory.specs.Row.{Row, victim_among, has_mark}
 use Rattle.row_theory.specs.Promise.{Memory, Answered, FreshRow, OldestIdle}
-use Rattle.row_theory.specs.declared.Reply.{Reply}
-use Rattle.row_theory.specs.declared.Victim.{Victim}
 use Rattle.bank_theory.specs.Banks.{of_frame, in_open, fresh_banks, banks_under, shut_out}
 use Rattle.bank_theory.specs.Banks.{shut}
-use Rattle.bank_theory.specs.Gated.{fresh_gated, gated_then, refused_reply, reply_under, row_under}
+use Rattle.bank_theory.specs.Gated.{fresh_gated, gated_then, reply_under, row_under}
 use Rattle.bank_theory.specs.BankRuns.{gated_after}
 use Rattle.bank_theory.specs.BankPromise.{BankMemory, bank_memory, gates_of, banks_in, gated_in, gated_with, ReachedGates}
 use Rattle.bank_theory.specs.BankPromise.{StandsUnder, AnsweredUnder, FreshBanks, OldestOpen}
@@ -43,14 +43,14 @@ shut_same call spread = ap (λ (opens : ℕ → Bool). shut_out opens call) (ope
 
 -- A3: a call that finds its bank not open leaves the memory as it was
 pub call_shut : {m : BankMemory} {call : Call} → StandsUnder m → shut_out (has_mark m.gates) call ≡ true →
-    AnsweredUnder m (of_frame call) (refused_reply bank_not_open) m
+    AnsweredUnder m (of_frame call) (Err BankNotOpen) m
 unfolding reply_under gated_then row_under banks_under
 call_shut {m} {call} stands e =
     let isShut = sym (shut_same call stands.gated.spread) ∙ e in
     answered_under stands (rw isShut) (rw isShut) stands.index stands.gated.spread
 
 -- B3: any other is the row's
-pub call_through : {m : BankMemory} {call : Call} {reply : Reply} {row' : Memory} → StandsUnder m →
+pub call_through : {m : BankMemory} {call : Call} {reply : Result ℕ Refusal} {row' : Memory} → StandsUnder m →
     shut_out (has_mark m.gates) call ≡ false → Answered m.row call reply row' →
     AnsweredUnder m (of_frame call) reply (bank_memory row' m.gates)
 unfolding reply_under gated_then row_under banks_under
@@ -62,7 +62,7 @@ call_through {m} {call} stands e met =
     met.stands.index stands.gated.spread
 
 -- B4: the oldest idle frame with an open gate
-pub victim_open : {row : Row} {gates : List ℕ} {victim : Victim} → ReachedGates row gates →
+pub victim_open : {row : Row} {gates : List ℕ} {victim : Result Frame Refusal} → ReachedGates row gates →
     OldestIdle row (has_mark gates) victim → OldestOpen (gated_with row gates) victim
 victim_open {row} given p =
     oldest_open (p.answer ∙ ap (λ (opens : ℕ → Bool). victim_among opens row) (open_same given.spread))

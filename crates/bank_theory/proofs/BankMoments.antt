@@ -1,11 +1,13 @@
 -- Moments, moves and slots examined under banks (docs/RULES.md, B4, B5): those of the row's own calls, but for the moments'
 -- numbers, which are in the same order.
 use Rattle.std.specs.Prelude.{ℕ, zero, suc, ◌+◌, ◌*◌, ◌<◌, ◌≤◌, ◌≡◌, refl, Bool, true, false, cond, ◌&&◌, List, [], ◌∷◌}
-use Rattle.std.specs.Prelude.{◌++◌, eqb, length}
+use Rattle.std.specs.Prelude.{◌++◌, eqb, length, Result, Ok, Err}
+use Rattle.std.specs.Result.{result_and}
 use Rattle.std.proofs.Common.{zero-le, arith, sym, ◌∙◌, ap}
 use Rattle.std.proofs.Math.Bool.{and-false}
 use Rattle.rules.specs.Limits.{bank_frames}
 use Rattle.rules.specs.Cases.{by_cases}
+use Rattle.rules.specs.declared.refusal.Refusal.{Refusal}
 use Rattle.row_theory.specs.States.{Call, accepts, moves}
 use Rattle.row_theory.specs.Row.{reply_of, examined_of}
 use Rattle.row_theory.specs.History.{states_after, moves_last, moment_after, moves_after}
@@ -15,7 +17,7 @@ use Rattle.row_theory.proofs.Moments.{moment_bound, moment_kept}
 use Rattle.row_theory.proofs.Bound.{examined_rule}
 use Rattle.row_theory.specs.declared.Event.TheVariants.{Drop}
 use Rattle.bank_theory.specs.declared.Gating.{Gating}
-use Rattle.bank_theory.specs.Banks.{Step, of_frame, of_bank, takes, cuts, shut}
+use Rattle.bank_theory.specs.Banks.{Step, of_frame, of_bank, gating_verdict, cuts, shut}
 use Rattle.bank_theory.specs.BankHistory.{Seen, seen_after, moves_now, moment_under, moves_under}
 use Rattle.bank_theory.specs.Gated.{reply_under}
 use Rattle.bank_theory.specs.BankRuns.{gated_after, examined_under, drops, calls_of, row_calls}
@@ -82,6 +84,11 @@ moves_same (of_frame call ∷ history) =
 moves_same (of_bank gating bank ∷ history) =
     (bank_still (seen_after history) gating bank (row_calls history)).count ∙ moves_same history
 
+-- a bank call examines none
+bank_examined : (v : Result ℕ Refusal) → examined_of (result_and v (Ok 0)) ≡ 0
+bank_examined (Ok state) = refl
+bank_examined (Err r) = refl
+
 -- B5: and so are the slots examined
 pub examined_same : (history : List Step) → examined_after (row_calls history) ≡ examined_under history
 unfolding row_calls examined_under reply_under calls_of examined_after
@@ -92,9 +99,9 @@ examined_same (of_frame call ∷ history) =
     (λ e. rw (banks, e) (omega (arith, examined_same history)))
     (λ e. rw (banks, e, under_banks history) (omega (arith, examined_same history)))
 examined_same (of_bank gating bank ∷ history) =
-    (bank_still (seen_after history) gating bank (row_calls history)).seen ∙ examined_same history ∙
-    by_cases (takes (gated_after history).row.states (gated_after history).banks gating bank) (λ e. rw e (omega arith))
-    (λ e. rw e (omega arith))
+    let gated = gated_after history in
+    let none = bank_examined (gating_verdict gated.row.states gated.banks gating bank) in
+    (bank_still (seen_after history) gating bank (row_calls history)).seen ∙ examined_same history ∙ omega (arith, none)
 
 -- no moment is later than now
 moment_bound_under : (history : List Step) (frame : ℕ) → moment_under history frame ≤ length history

@@ -1,83 +1,36 @@
--- The steps of a call under banks on lent memory: the loops over a bank's frames, and a call from its tests to its promise.
-use Rattle.std.specs.Prelude.{ℕ, zero, suc, ◌+◌, ◌<◌, ◌≤◌, ◌≡◌, refl, true, false, List, ltb, eqb, length, get_or, set}
-use Rattle.std.proofs.Common.{add-one, arith, sym, ◌∙◌, ap, length-set, get_or-set_same, get_or-set_other, eq-eqb}
-use Rattle.std.proofs.Common.{ne_eqb, eqb-true, le-ltb, lt-ltb}
-use Rattle.std.proofs.Math.Bool.{and-false, and-true}
+-- The steps of a bank call on lent memory: a bank's part of the states and of the gates, and its frames leaving one by one.
+use Rattle.std.specs.Prelude.{ℕ, zero, suc, ◌+◌, ◌<◌, ◌≤◌, ◌≡◌, refl, false, List, leb, ltb, eqb, length, get_or, take, drop}
+use Rattle.std.specs.Prelude.{replicate, Result}
+use Rattle.std.specs.List.{list_any}
+use borrow.Rule.Slice.PartMut.{mid_of, put_mid}
+use Rattle.std.proofs.lemmas.List.{places}
+use Rattle.std.proofs.Common.{arith, sym, ◌∙◌, ap, drop-cons}
+use Rattle.std.proofs.Common.{eqb-true, leb-true, leb-false, ltb-true, ltb-false}
 use Rattle.std.proofs.lemmas.Bool.{eqb-false, lt-leb}
 use Rattle.rules.specs.Limits.{frames, bank_frames}
 use Rattle.rules.specs.Cases.{by_cases}
 use Rattle.row_theory.specs.States.{absent, idle, busy, state_of, table_at, verdict_of, accepts}
-use Rattle.row_theory.specs.Row.{Row, after, has_mark}
+use Rattle.row_theory.specs.Row.{Row, after}
 use Rattle.row_theory.specs.Promise.{Memory, row_in, Stands, asked, Answered}
 use Rattle.row_theory.proofs.PromiseLaws.{ordered}
 use Rattle.row_theory.proofs.SoundRow.{after_refused}
-use Rattle.row_theory.specs.declared.Event.{Event}
 use Rattle.row_theory.specs.declared.Event.TheVariants.{Drop}
-use Rattle.row_theory.specs.declared.Reply.{Reply}
-use Rattle.bank_theory.specs.Banks.{off, opened, needs_open, busy_from, shut_out}
-use Rattle.bank_theory.proofs.Dropping.{within_none, within_more}
-use Rattle.bank_theory.specs.BankLending.{dropping, DroppedOne, Dropped, CalmTo, DroppedTo, within, Stored, StoredTo}
+use Rattle.rules.specs.declared.refusal.Refusal.{Refusal}
+use Rattle.bank_theory.specs.Banks.{busy_from}
+use Rattle.bank_theory.specs.BankLending.{dropping, DroppedOne, Dropped, DroppedTo, within, Stored}
 
--- R33: a number that is no frame's, a frame whose gate is open, and one whose gate is not
-pub shut_past : (gates : List ℕ) (event : Event) (frame : ℕ) → frames ≤ frame →
-    shut_out (has_mark gates) (asked event frame) ≡ false
-unfolding shut_out
-shut_past gates event frame past = rw (le-ltb frame frames past)
-
-pub shut_opened : (gates : List ℕ) (event : Event) (frame : ℕ) → get_or gates frame off ≡ opened →
-    shut_out (has_mark gates) (asked event frame) ≡ false
-unfolding shut_out has_mark
-shut_opened gates event frame isOpen =
-    rw (isOpen, and-false (needs_open event)) (and-false (ltb frame frames))
-
-pub shut_decided : (gates : List ℕ) (event : Event) (frame : ℕ) → frame < frames → (get_or gates frame off ≡ opened → ⊥) →
-    shut_out (has_mark gates) (asked event frame) ≡ needs_open event
-unfolding shut_out has_mark
-shut_decided gates event frame small other =
-    rw (lt-ltb frame frames small, ne_eqb (get_or gates frame off) opened other) (and-true (needs_open event))
-
--- one of the three says whether a call is shut out
-pub ruleset shut_laws = (shut_past, shut_opened, shut_decided)
-
--- R31: looking for a busy frame
-pub calm_start : {states : List ℕ} {first : ℕ} → CalmTo states first first
-calm_start = record { more = bank_frames; ends = refl; same = refl }
-
--- one frame on: there is one more, and it is not busy
-calm_more : (states : List ℕ) (first at more : ℕ) → at + more ≡ first + bank_frames → at < first + bank_frames →
-    busy_from states first bank_frames ≡ busy_from states at more → (get_or states at 0 ≡ busy → ⊥) → CalmTo states first (at + 1)
+-- R31: is a busy one among so many states from a frame on?
+busy_slice : (states : List ℕ) (first many : ℕ) → first + many ≤ length states →
+    list_any (λ s. eqb s busy) (take many (drop first states)) ≡ busy_from states first many
 unfolding busy_from
-calm_more states first at zero ends below same other = absurd (omega arith)
-calm_more states first at (suc more) ends below same other =
-    record {
-      more = more;
-      ends = omega arith;
-      same = same ∙ rw (ne_eqb (get_or states at 0) busy other, add-one at);
-    }
+busy_slice states first zero room = refl
+busy_slice states first (suc many) room =
+    rw (drop-cons states first 0 (omega arith)) (rw (busy_slice states (suc first) many (omega arith)))
 
-pub calm_next : {states : List ℕ} {first at : ℕ} → CalmTo states first at → at < first + bank_frames →
-    (get_or states at 0 ≡ busy → ⊥) → CalmTo states first (at + 1)
-calm_next {states} {first} {at} calm below other = calm_more states first at calm.more calm.ends below calm.same other
-
-busy_more : (states : List ℕ) (first at more : ℕ) → at + more ≡ first + bank_frames → at < first + bank_frames →
-    get_or states at 0 ≡ busy → busy_from states at more ≡ true
-unfolding busy_from
-busy_more states first at zero ends below is_busy = absurd (omega arith)
-busy_more states first at (suc more) ends below is_busy = rw (eq-eqb (get_or states at 0) busy is_busy)
-
-pub busy_found : {states : List ℕ} {first at : ℕ} → CalmTo states first at → at < first + bank_frames →
-    get_or states at 0 ≡ busy → busy_from states first bank_frames ≡ true
-busy_found {states} {first} {at} calm below is_busy =
-    calm.same ∙ busy_more states first at calm.more calm.ends below is_busy
-
-none_more : (states : List ℕ) (at more : ℕ) → more ≡ 0 → busy_from states at more ≡ false
-unfolding busy_from
-none_more states at zero e = refl
-none_more states at (suc more) e = absurd (omega arith)
-
-pub calm_end : {states : List ℕ} {first at : ℕ} → CalmTo states first at → first + bank_frames ≤ at →
-    busy_from states first bank_frames ≡ false
-calm_end {states} {first} {at} calm past = calm.same ∙ none_more states at calm.more (omega (arith, calm.ends))
+-- as code looks for it in that part of the states
+pub busy_among : (states : List ℕ) (first many k : ℕ) → k ≡ many → first + many ≤ length states →
+    list_any (λ s. eqb s busy) (mid_of first k states) ≡ busy_from states first many
+busy_among states first many k is room = rw is (busy_slice states first many room)
 
 -- B2: dropping a bank's frames one by one
 pub drop_start : {m : Memory} {first : ℕ} → Stands m → DroppedTo m first first m
@@ -120,7 +73,8 @@ drop_nothing {m} {frame} stands small other =
       stands = stands;
     }
 
-pub drop_one : {m m' : Memory} {frame : ℕ} {reply : Reply} → Answered m (asked Drop frame) reply m' → DroppedOne m frame m'
+pub drop_one : {m m' : Memory} {frame : ℕ} {reply : Result ℕ Refusal} → Answered m (asked Drop frame) reply m' →
+    DroppedOne m frame m'
 drop_one met = record { row = met.next; stands = met.stands }
 
 pub drop_end : {m m₁ : Memory} {first at : ℕ} → DroppedTo m first at m₁ → first + bank_frames ≤ at →
@@ -129,37 +83,24 @@ drop_end {m} {m₁} {first} {at} to past =
     let all : to.many ≡ bank_frames = omega (arith, to.is, to.room) in
     rw (← all) to.dropped
 
--- storing a state at a bank's gates one by one
-pub store_start : {gates : List ℕ} {first state : ℕ} → StoredTo gates first first state gates
-store_start {gates} {first} {state} =
+-- a state stored at so many gates from a frame on
+stored_slice : (gates : List ℕ) (first many state : ℕ) → first + many ≤ length gates →
+    Stored gates first many state (put_mid first many gates (replicate many state))
+unfolding within
+stored_slice gates first many state room =
     record {
-      many = 0;
-      is = omega arith;
-      room = omega arith;
-      stored = record { long = refl; at = λ frame. rw (within_none first frame) };
+      long = grind (arith, places);
+      at = λ frame. by_cases (leb first frame)
+          (λ low. let from = leb-true first frame low in
+          by_cases (ltb frame (first + many))
+          (λ high. let below = ltb-true frame (first + many) high in rw (low, high) (grind (arith, places)))
+          (λ past. let from-end = ltb-false frame (first + many) past in rw (low, past) (grind (arith, places))))
+          (λ under. let below = leb-false first frame under in rw under (grind (arith, places)));
     }
 
-pub store_next : {gates gates₁ : List ℕ} {first at state : ℕ} → StoredTo gates first at state gates₁ → at < first + bank_frames →
-    first + bank_frames ≤ length gates → StoredTo gates first (at + 1) state (set gates₁ at state)
-store_next {gates} {gates₁} {first} {at} {state} to below room =
-    let stored = to.stored in
-    record {
-      many = suc to.many;
-      is = omega (arith, to.is);
-      room = omega arith;
-      stored = record {
-        long = length-set gates₁ at state ∙ stored.long;
-        at = λ frame. rw (within_more first to.many frame, ← to.is)
-            (by_cases (eqb frame at)
-            (λ e. rw (e, eqb-true frame at e, get_or-set_same gates₁ at state off (omega (arith, stored.long)))
-            (by_cases (within first to.many at) (λ w. rw w) (λ w. rw w)))
-            (λ e. rw (e, get_or-set_other gates₁ at frame state off (eqb-false frame at e), stored.at frame)
-            (by_cases (within first to.many frame) (λ w. rw w) (λ w. rw w))));
-      };
-    }
-
-pub store_end : {gates gates₁ : List ℕ} {first at state : ℕ} → StoredTo gates first at state gates₁ → first + bank_frames ≤ at →
-    Stored gates first bank_frames state gates₁
-store_end {gates} {gates₁} {first} {at} {state} to past =
-    let all : to.many ≡ bank_frames = omega (arith, to.is, to.room) in
-    rw (← all) to.stored
+-- as code fills that part of the gates
+pub stored_part : (gates part : List ℕ) (first many state k : ℕ) → k ≡ many → first + many ≤ length gates →
+    part ≡ replicate (length (mid_of first k gates)) state → Stored gates first many state (put_mid first k gates part)
+stored_part gates part first many state k is room filled =
+    let long : length (mid_of first k gates) ≡ many = grind (arith, places) in
+    rw (filled, long, is) (stored_slice gates first many state room)

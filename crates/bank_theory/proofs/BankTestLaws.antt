@@ -1,11 +1,13 @@
 -- The test of a row under banks (BankTest) is exact: lent memory passes it exactly if fresh banks and calls give it.
-use Rattle.std.specs.Prelude.{ℕ, ◌+◌, ◌-◌, ◌*◌, ◌<◌, ◌≤◌, ◌≡◌, refl, Bool, true, false, cond, ◌&&◌, List, [], ◌∷◌, leb}
-use Rattle.std.specs.Prelude.{ltb, eqb, length}
+use Rattle.std.specs.Prelude.{ℕ, ◌+◌, ◌-◌, ◌*◌, ◌<◌, ◌≤◌, ◌≡◌, Bool, true, false, cond, ◌&&◌, List, [], ◌∷◌, leb}
+use Rattle.std.specs.Prelude.{ltb, eqb, length, zero, suc}
+use Rattle.std.specs.List.{list_all, range_with_len}
+use Rattle.std.proofs.Math.Bool.{and-true, and_assoc}
 use native.Mathlib.Omega.{arith}
 use Rattle.std.proofs.Math.Path.{sym}
-use Rattle.std.proofs.Common.{◌∙◌, ap, subst, ext_get_or}
+use Rattle.std.proofs.Common.{◌∙◌, ap, subst, ext_get_or, add-one}
 use Rattle.std.proofs.Math.ListN.{get_or, get_or-eq_default}
-use borrow.Author.Tests.{eq-eqb, eqb-true, le-leb, leb-true, leb-false, ltb-true, ltb-false}
+use borrow.Author.Tests.{eq-eqb, eqb-true, le-leb, leb-true, ltb-true, ltb-false}
 use Rattle.rules.specs.Limits.{frames, bank_frames}
 use Rattle.rules.specs.Limits
 use Rattle.rules.specs.Cases.{by_cases, clash, and_left, and_right}
@@ -14,18 +16,17 @@ use Rattle.row_theory.specs.States.{absent, state_of}
 use Rattle.row_theory.specs.RowTest.{row_sound, RowTested}
 use Rattle.row_theory.specs.TestParts.{Sized}
 use Rattle.row_theory.proofs.TestLaws.{sound_stands, stands_sound, stands_sized}
-use Rattle.bank_theory.specs.Banks.{Step, of_frame, of_bank, bank_of, off, closing, bank_state, gated_to, takes}
+use Rattle.bank_theory.specs.Banks.{Step, of_frame, of_bank, bank_of, off, closing, bank_state, takes}
 use Rattle.bank_theory.specs.Banks.{fresh_banks, banks_under}
 use Rattle.bank_theory.specs.BankHistory.{Seen, seen_then, seen_after}
 use Rattle.bank_theory.specs.BankPromise.{BankMemory, gates_of, banks_in, gated_in, StandsUnder}
 use Rattle.bank_theory.specs.BankTest.{gate_sound, bank_sound, banks_sound, BanksTested}
-use Rattle.bank_theory.proofs.BankLaws.{bank_small, taken}
+use Rattle.bank_theory.proofs.BankLaws.{bank_small, taken, refused}
 use Rattle.bank_theory.proofs.UnderBanks.{seen_in, same_seen}
 use Rattle.bank_theory.proofs.Powered.{Powered, powered_after, each_open}
 use Rattle.bank_theory.proofs.BankPromiseLaws.{row_stands}
 use Rattle.bank_theory.specs.BankLending.{GateTested}
 use Rattle.bank_theory.proofs.GateLaws.{gates_long, gate_is, bank_is, banks_long}
-use Rattle.bank_theory.proofs.GateCallLaws.{gated_range}
 use Rattle.bank_theory.proofs.Regated.{KnownBanks, PoweredBy, regated, known_stored}
 
 -- lent banks have as many slots, places, states and gates as their types say
@@ -46,13 +47,9 @@ unfolding seen_then banks_under
 known_then seen (of_frame call) long known = known
 known_then seen (of_bank gating bank) long known =
     by_cases (takes seen.states seen.banks gating bank)
-    (λ ok. let took = taken seen.states seen.banks gating bank (eqb-true _ 0 ok) in
-    let next = gated_to gating (bank_state seen.banks bank) in
-    let low : next ≤ closing =
-    by_cases (leb next closing) (leb-true next closing)
-    (λ e. absurd (took.allowed (gated_range gating (bank_state seen.banks bank) (leb-false next closing e)))) in
-    rw ok (known_stored seen.states seen.banks bank next (omega (arith, took.small)) low known))
-    (λ refused. rw refused known)
+    (λ ok. let took = taken seen.states seen.banks gating bank ok in
+    rw took.verdict (known_stored seen.states seen.banks bank took.state (omega (arith, took.small)) took.known known))
+    (λ no. rw (refused seen.states seen.banks gating bank no).verdict known)
 
 known_after : (history : List Step) → KnownBanks (seen_after history).banks
 unfolding seen_after
@@ -191,12 +188,12 @@ banks_tested sized is =
     }
 
 -- banks over a row that was tested: a row that fails fails the test, and where it passes the gates decide
-pub banks_failed : {m : BankMemory} {r : Bool} → RowTested m.row r → r ≡ false → BanksTested m false
+pub banks_failed : {m : BankMemory} {r : Bool} → RowTested m.row r → r ≡ false → BanksTested m r
 unfolding banks_sound
 banks_failed {m} row no_row =
     record {
-      answer = rw (← row.answer, no_row);
-      gives = λ e. clash e refl;
+      answer = no_row ∙ rw (← row.answer, no_row);
+      gives = λ e. clash e no_row;
       given = λ stands. clash (row.given (row_stands stands)) no_row;
     }
 
@@ -207,7 +204,19 @@ banks_passed {m} {r} row passes long is =
     let whole : r ≡ banks_sound m = unfold banks_sound in rw (← row.answer, passes) is in
     banks_tested sized whole
 
--- one gate, as code takes it
+-- all banks, as code takes them one by one
+all_from : (p : ℕ → Bool) (a n m : ℕ) → a + n ≡ m → (all_below p a && list_all p (range_with_len a n)) ≡ all_below p m
+unfolding all_below
+all_from p a zero m is = let same : a ≡ m = omega arith in and-true (all_below p a) ∙ ap (all_below p) same
+all_from p a (suc n) m is =
+    sym (and_assoc (all_below p a) (p a) (list_all p (range_with_len (a + 1) n))) ∙
+    rw (add-one a) (all_from p (suc a) n m (omega arith))
+
+pub all_listed : (p : ℕ → Bool) (n : ℕ) → list_all p (range_with_len 0 n) ≡ all_below p n
+unfolding all_below
+all_listed p n = all_from p 0 n n (omega arith)
+
+-- one gate, from what is read of it
 pub gate_tested : {gates states : List ℕ} {first frame : ℕ} {fits r : Bool} →
     fits ≡ cond (eqb (get_or gates frame off) off) (eqb (state_of states frame) absent) (leb (get_or gates frame off) closing) →
     r ≡ (eqb (get_or gates frame off) (get_or gates first off) && fits) → GateTested gates states first frame r

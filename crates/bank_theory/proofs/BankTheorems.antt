@@ -1,10 +1,12 @@
 -- What holds over any calls of frames and banks from fresh banks (docs/RULES.md, D1, D2, B1 to B6), in the rules' own words.
-use Rattle.std.specs.Prelude.{ℕ, ◌*◌, ◌<◌, ◌≤◌, ◌≡◌, refl, ltb, eqb}
-use Rattle.std.proofs.Common.{arith, ap, eqb-true, eq-eqb, ltb-true, ltb-false}
+use Rattle.std.specs.Prelude.{ℕ, ◌*◌, ◌<◌, ◌≤◌, ◌≡◌, refl, ltb, eqb, Result, Ok, Err}
+use Rattle.std.proofs.Common.{arith, ◌∙◌, ap, eqb-true, eq-eqb, ltb-true, ltb-false}
 use mathlib.Core.List.{List, [], ◌∷◌, reverse_aux, map}
 use Rattle.std.proofs.Math.ListN.{get_or-eq_default}
 use Rattle.rules.specs.Limits.{frames, banks, bank_frames}
-use Rattle.rules.specs.Refusals.{wrong_bank_state, bank_busy, bad_bank, bank_not_open}
+use Rattle.rules.specs.Refusals.{refusal_number}
+use Rattle.rules.specs.declared.refusal.Refusal.{Refusal}
+use Rattle.rules.specs.declared.refusal.Refusal.TheVariants.{WrongBankState, BankBusy, BadBank, BankNotOpen}
 use Rattle.rules.specs.Cases.{by_cases}
 use Rattle.row_theory.specs.States.{Call, absent, busy, state_of}
 use Rattle.row_theory.specs.Row.{Row, victim_among}
@@ -13,31 +15,33 @@ use Rattle.row_theory.specs.Runs.{row_after}
 use Rattle.row_theory.proofs.GoodStates.{busy_held}
 use Rattle.row_theory.proofs.VictimLaws.{victim_alike}
 use Rattle.row_theory.proofs.Theorems.{victim_says, examined_bound}
-use Rattle.row_theory.specs.declared.Victim.TheVariants.{Given}
 use Rattle.bank_theory.specs.declared.Gating.{Gating}
 use Rattle.bank_theory.specs.declared.Gating.TheVariants.{Close, Cut, Open}
 use Rattle.bank_theory.specs.Banks.{Step, of_frame, of_bank, bank_of, in_bank, in_open, off, opened, bank_state, gated_to}
-use Rattle.bank_theory.specs.Banks.{gating_refusal, shut, states_under}
+use Rattle.bank_theory.specs.Banks.{gating_refusal, takes, shut, states_under}
 use Rattle.bank_theory.specs.BankHistory.{Seen, seen_after, seen_then, moves_under, MayGoUnder, moment_under, VictimSaysUnder}
 use Rattle.bank_theory.specs.Gated.{victim_under}
 use Rattle.bank_theory.specs.BankRuns.{gated_after, examined_under, row_calls, gated_from}
 use Rattle.bank_theory.proofs.Leaving.{state_without}
-use Rattle.bank_theory.proofs.BankLaws.{taken, calm_frame}
+use Rattle.bank_theory.proofs.BankLaws.{taken, takes_from, takes_number, calm_frame}
 use Rattle.bank_theory.proofs.UnderBanks.{same_seen, under_banks, states_under_law}
 use Rattle.bank_theory.proofs.BankMoments.{moves_same, examined_same, later_same}
 use Rattle.bank_theory.proofs.Powered.{good_under, powered_after}
 
 -- L8, R30 to R33: the rules' own numbers
-pub bank_numbers : banks ∷ bank_frames ∷ wrong_bank_state ∷ bank_busy ∷ bad_bank ∷ bank_not_open ∷ [] ≡
+pub bank_numbers : banks ∷ bank_frames ∷ map refusal_number (WrongBankState ∷ BankBusy ∷ BadBank ∷ BankNotOpen ∷ []) ≡
     4 ∷ 16 ∷ 30 ∷ 31 ∷ 32 ∷ 33 ∷ []
 bank_numbers = refl
 
--- B2 as a table in the rules' own numbers: rows close, cut, open; columns off (0), open (1), closing (2); 30 is the refusal
-abbrev each_state : Gating → List ℕ
+-- B2 as a table in the rules' own numbers: rows close, cut, open; columns off (0), open (1), closing (2)
+abbrev each_state : Gating → List (Result ℕ Refusal)
 each_state gating = map (gated_to gating) (0 ∷ 1 ∷ 2 ∷ [])
 
+abbrev wrong : Result ℕ Refusal
+wrong = Err WrongBankState
+
 pub gating_table : each_state Close ∷ each_state Cut ∷ each_state Open ∷ [] ≡
-    (30 ∷ 2 ∷ 30 ∷ []) ∷ (30 ∷ 30 ∷ 0 ∷ []) ∷ (1 ∷ 30 ∷ 1 ∷ []) ∷ []
+    (wrong ∷ Ok 2 ∷ wrong ∷ []) ∷ (wrong ∷ wrong ∷ Ok 0 ∷ []) ∷ (Ok 1 ∷ wrong ∷ Ok 1 ∷ []) ∷ []
 unfolding gated_to
 gating_table = refl
 
@@ -70,7 +74,7 @@ pub busy_not_cut : (history : List Step) (frame : ℕ) → state_of (seen_after 
 busy_not_cut history frame is_busy ok =
     let seen = seen_after history in
     let first = bank_of frame * bank_frames in
-    let took = taken seen.states seen.banks Cut (bank_of frame) ok in
+    let took = taken seen.states seen.banks Cut (bank_of frame) (takes_from seen.states seen.banks Cut (bank_of frame) ok) in
     calm_frame seen.states first bank_frames frame (took.calm refl) (omega arith) (omega arith) is_busy
 
 -- an accepted bank call leaves a busy frame busy
@@ -81,11 +85,12 @@ busy_stays_under history Close bank frame is_busy = is_busy
 busy_stays_under history Open bank frame is_busy = is_busy
 busy_stays_under history Cut bank frame is_busy =
     let seen = seen_after history in
-    by_cases (eqb (gating_refusal seen.states seen.banks Cut bank) 0)
+    by_cases (takes seen.states seen.banks Cut bank)
     (λ ok. rw (ok, state_without (in_bank bank) seen.states frame (busy_small history frame is_busy))
     (by_cases (eqb (bank_of frame) bank)
     (λ e. let at : bank_of frame ≡ bank = eqb-true (bank_of frame) bank e in
-    absurd (busy_not_cut history frame is_busy (rw at (eqb-true _ 0 ok))))
+    let none = eqb-true (gating_refusal seen.states seen.banks Cut bank) 0 (takes_number seen.states seen.banks Cut bank ∙ ok) in
+    absurd (busy_not_cut history frame is_busy (rw at none)))
     (λ e. rw e is_busy)))
     (λ refused. rw refused is_busy)
 
@@ -116,7 +121,7 @@ victim_under_says history =
 
 -- D1: a busy frame is never given as victim
 pub busy_no_victim_under : (history : List Step) (frame : ℕ) → state_of (seen_after history).states frame ≡ busy →
-    victim_under (gated_after history) ≡ Given (record { 0 = frame }) → ⊥
+    victim_under (gated_after history) ≡ Ok (record { 0 = frame }) → ⊥
 busy_no_victim_under history frame is_busy given =
     let says : VictimIs (MayGoUnder history) (moment_under history) frame = rw given at (victim_under_says history) in
     omega (arith, says.may_go.0)

@@ -1,11 +1,12 @@
 -- Drops as frames leaving (docs/RULES.md, B2): dropping frames one by one, in any row that calls give, is their leaving together
 -- if none of them is busy.
 use Rattle.std.specs.Prelude.{ℕ, zero, suc, ◌+◌, ◌<◌, ◌≤◌, ◌≡◌, Bool, true, false, ◌||◌, List, ◌∷◌, ◌++◌, leb, ltb, eqb, length}
+use Rattle.std.specs.Prelude.{Ok, Err}
 use Rattle.std.proofs.Common.{arith, ◌∙◌, ap}
 use Rattle.std.proofs.Math.Path.{sym}
 use borrow.Author.Tests.{eqb-true, eqb-false, lt-ltb, le-ltb, le-leb, lt-leb, leb-true, ltb-true, ltb-false}
 use Rattle.rules.specs.Limits.{frames}
-use Rattle.rules.specs.Refusals.{not_held}
+use Rattle.rules.specs.declared.refusal.Refusal.TheVariants.{NotHeld}
 use Rattle.rules.specs.Lists.{times}
 use Rattle.rules.specs.Cases.{by_cases, clash}
 use Rattle.row_theory.specs.States.{Call, absent, idle, state_of, held_bit, held_in, table_at, verdict_of, accepts, states_then}
@@ -26,12 +27,12 @@ use Rattle.bank_theory.proofs.Leaving.{state_gone, states_untouched}
 
 -- a drop of an idle frame is accepted, and one of an absent frame is refused
 drop_idle : (states : List ℕ) (frame : ℕ) → frame < frames → state_of states frame ≡ idle →
-    verdict_of states (asked Drop frame) ≡ absent
+    verdict_of states (asked Drop frame) ≡ Ok absent
 unfolding verdict_of table_at
 drop_idle states frame small isIdle = rw (lt-leb frames frame small, isIdle)
 
 drop_absent : (states : List ℕ) (frame : ℕ) → frame < frames → state_of states frame ≡ absent →
-    verdict_of states (asked Drop frame) ≡ not_held
+    verdict_of states (asked Drop frame) ≡ Err NotHeld
 unfolding verdict_of table_at
 drop_absent states frame small gone = rw (lt-leb frames frame small, gone)
 

@@ -17,6 +17,7 @@ pub mod BankPromiseLaws
 pub mod GateLaws
 pub mod Regated
 pub mod BankStepLaws
+pub mod FrameByFrame
 pub mod BankCallLaws
 pub mod GateCallLaws
 pub mod BankTestLaws

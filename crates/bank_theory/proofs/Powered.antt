@@ -1,6 +1,6 @@
 -- The power of banks over any calls (docs/RULES.md, B6): no frame of an off bank is held. A put needs an open bank, every
 -- other call a frame that is held already, and a bank becomes off only by a cut, which takes its frames out.
-use Rattle.std.specs.Prelude.{ℕ, zero, suc, ◌<◌, ◌≡◌, false, cond, List, [], ◌∷◌, eqb, length, get_or, set, replicate}
+use Rattle.std.specs.Prelude.{ℕ, zero, suc, ◌<◌, ◌≡◌, false, cond, List, [], ◌∷◌, eqb, length, get_or, set, replicate, Ok}
 use Rattle.std.proofs.Common.{not-suc-le-zero, le_of_suc-le-suc, arith, sym, ◌∙◌, subst, length-set, get_or-set_same}
 use Rattle.std.proofs.Common.{get_or-set_other}
 use Rattle.std.proofs.Math.Path.{refl, ap}
@@ -15,13 +15,13 @@ use Rattle.row_theory.proofs.GoodStates.{GoodStates, good_after, states_refused,
 use Rattle.row_theory.specs.declared.Event.{Event}
 use Rattle.row_theory.specs.declared.Event.TheVariants.{Put, Touch, Start, End, Drop}
 use Rattle.bank_theory.specs.declared.Gating.{Gating}
-use Rattle.bank_theory.specs.Banks.{Step, of_frame, of_bank, bank_of, in_bank, in_open, off, opened, bank_state, gated_to}
+use Rattle.bank_theory.specs.Banks.{Step, of_frame, of_bank, bank_of, in_bank, in_open, off, opened, bank_state}
 use Rattle.bank_theory.specs.Banks.{is_cut, takes, needs_open, shut_out, shut, states_without, states_under, banks_under}
 use Rattle.bank_theory.specs.Banks.{fresh_banks}
 use Rattle.bank_theory.specs.BankHistory.{Seen, seen_then, seen_after}
 use Rattle.bank_theory.specs.BankRuns.{row_calls}
 use Rattle.bank_theory.proofs.Leaving.{state_without}
-use Rattle.bank_theory.proofs.BankLaws.{bank_small, taken, only_cut}
+use Rattle.bank_theory.proofs.BankLaws.{bank_small, Taken, taken, refused, only_cut}
 use Rattle.bank_theory.proofs.UnderBanks.{states_under_law}
 
 -- a state for each bank, and no frame of an off bank is held
@@ -68,11 +68,14 @@ powered_frame seen call good powered =
 -- an accepted bank call
 module _ (seen : Seen) (gating : Gating) (bank : ℕ) (powered : Powered seen)
     (ok : takes seen.states seen.banks gating bank ≡ true) where
-  next : ℕ
-  next = gated_to gating (bank_state seen.banks bank)
+  abbrev took : Taken seen.states seen.banks gating bank
+  took = taken seen.states seen.banks gating bank ok
+
+  abbrev next : ℕ
+  next = took.state
 
   inside : bank < length seen.banks
-  inside = omega (arith, (taken seen.states seen.banks gating bank (eqb-true _ 0 ok)).small, powered.long)
+  inside = omega (arith, took.small, powered.long)
 
   here : bank_state (set seen.banks bank next) bank ≡ next
   here = get_or-set_same seen.banks bank next off inside
@@ -92,9 +95,9 @@ module _ (seen : Seen) (gating : Gating) (bank : ℕ) (powered : Powered seen)
       (λ kept. rw kept gone)
 
   leaves : (frame : ℕ) → frame < frames → bank_of frame ≡ bank → next ≡ off → state_of then_states frame ≡ absent
-  unfolding in_bank next
+  unfolding in_bank
   leaves frame small at isOff =
-      let cut : is_cut gating ≡ true = ap is_cut (only_cut gating (bank_state seen.banks bank) isOff).0 in
+      let cut : is_cut gating ≡ true = ap is_cut (only_cut gating (bank_state seen.banks bank) (took.allowed ∙ ap Ok isOff)).0 in
       rw (cut, state_without (in_bank bank) seen.states frame small, eq-eqb (bank_of frame) bank at)
 
   switched_powered : Powered (record { states = then_states; banks = set seen.banks bank next })
@@ -109,11 +112,12 @@ module _ (seen : Seen) (gating : Gating) (bank : ℕ) (powered : Powered seen)
       }
 
 powered_bank : (seen : Seen) (gating : Gating) (bank : ℕ) → Powered seen → Powered (seen_then seen (of_bank gating bank))
-unfolding seen_then states_under banks_under next
+unfolding seen_then states_under banks_under
 powered_bank seen gating bank powered =
     by_cases (takes seen.states seen.banks gating bank)
-    (λ ok. rw (ok, and-true (is_cut gating)) (switched_powered seen gating bank powered ok))
-    (λ refused. rw (refused, and-false (is_cut gating)) powered)
+    (λ ok. rw ((taken seen.states seen.banks gating bank ok).verdict, and-true (is_cut gating))
+    (switched_powered seen gating bank powered ok))
+    (λ no. rw ((refused seen.states seen.banks gating bank no).verdict, and-false (is_cut gating)) powered)
 
 -- the states of frames are those of a row alone
 pub good_under : (history : List Step) → GoodStates (seen_after history).states

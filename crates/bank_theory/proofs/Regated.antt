@@ -2,7 +2,7 @@
 -- calls under open banks, then a close for each bank that is closing, and a close and a cut for each that is off.
 use Prim.Native.Nat.{ℕ, zero, suc, ◌+◌, ◌*◌, ◌<◌, ◌≤◌}
 use Rattle.std.proofs.Common.{le_refl, arith, ◌∙◌, subst, length-set, get_or-set_other, ext_get_or}
-use Rattle.std.specs.Prelude.{◌≡◌, List, [], ◌∷◌, map, ltb, eqb, length, set}
+use Rattle.std.specs.Prelude.{◌≡◌, List, [], ◌∷◌, map, ltb, eqb, length, set, Ok}
 use Rattle.std.proofs.Math.Path.{refl, sym, ap}
 use Rattle.std.proofs.Math.Bool.{false, and-false}
 use Rattle.std.proofs.lemmas.List.{length-replicate}
@@ -19,7 +19,7 @@ use Rattle.row_theory.proofs.Tidy.{Tidy, tidy}
 use Rattle.row_theory.proofs.RebuildCalls.{set_back}
 use Rattle.bank_theory.specs.declared.Gating.TheVariants.{Close, Cut}
 use Rattle.bank_theory.specs.Banks.{Step, of_frame, of_bank, bank_of, in_bank, in_open, off, opened, closing, bank_state}
-use Rattle.bank_theory.specs.Banks.{fresh_banks, gated_to, busy_from, busy_in, gating_refusal, needs_open, shut_out, shut}
+use Rattle.bank_theory.specs.Banks.{fresh_banks, gated_to, busy_from, busy_in, gating_verdict, needs_open, shut_out, shut}
 use Rattle.bank_theory.specs.Banks.{banks_under}
 use Rattle.bank_theory.specs.Gated.{Gated, fresh_gated, row_without, row_under, gated_then}
 use Rattle.bank_theory.specs.BankRuns.{gated_after, ReachedUnder}
@@ -75,14 +75,14 @@ PoweredBy states banks = Powered (record { states = states; banks = banks })
 -- O8: a close of an open bank and a cut of a calm closing one are accepted, and what they make of it
 module _ (states banks : List ℕ) (bank : ℕ) (small : bank < Limits.banks) where
   close_taken : bank_state banks bank ≡ opened →
-      (gating_refusal states banks Close bank ≡ 0) × (gated_to Close (bank_state banks bank) ≡ closing)
-  unfolding gating_refusal gated_to
-  close_taken was = (rw (lt-leb Limits.banks bank small, was), rw was)
+      gating_verdict states banks Close bank ≡ Ok closing
+  unfolding gating_verdict gated_to
+  close_taken was = rw (lt-leb Limits.banks bank small, was)
 
   cut_taken : bank_state banks bank ≡ closing → busy_in states bank ≡ false →
-      (gating_refusal states banks Cut bank ≡ 0) × (gated_to Cut (bank_state banks bank) ≡ off)
-  unfolding gating_refusal gated_to
-  cut_taken was calm = (rw (lt-leb Limits.banks bank small, was, calm), rw was)
+      gating_verdict states banks Cut bank ≡ Ok off
+  unfolding gating_verdict gated_to
+  cut_taken was calm = rw (lt-leb Limits.banks bank small, was, calm)
 
 module _ (row : Row) (banks : List ℕ) (bank : ℕ) (small : bank < Limits.banks) (long : length banks ≡ Limits.banks) where
   inside : bank < length banks
@@ -97,8 +97,8 @@ module _ (row : Row) (banks : List ℕ) (bank : ℕ) (small : bank < Limits.bank
   unfolding gated_then row_under banks_under
   closed is =
       let was : bank_state (set banks bank opened) bank ≡ opened = get_or-set_same banks bank opened off inside in
-      let none = close_taken row.states (set banks bank opened) bank small was in
-      rw (none.0, none.1) (ap (gated_by row) (set_back banks bank opened closing off inside is))
+      rw (close_taken row.states (set banks bank opened) bank small was)
+      (ap (gated_by row) (set_back banks bank opened closing off inside is))
 
   -- B2: the last call was a cut, of a bank that held nothing
   module _ (nothing : (frame : ℕ) → frame < frames → bank_of frame ≡ bank → state_of row.states frame ≡ absent)
@@ -130,9 +130,9 @@ module _ (row : Row) (banks : List ℕ) (bank : ℕ) (small : bank < Limits.bank
     was_cut is =
         let was : bank_state (set banks bank closing) bank ≡ closing = get_or-set_same banks bank closing off inside in
         let idle : busy_in row.states bank ≡ false = calm (bank * bank_frames) bank_frames (le_refl _) (le_refl _) in
-        let none = cut_taken row.states (set banks bank closing) bank small was idle in
+        let off-now = cut_taken row.states (set banks bank closing) bank small was idle in
         let back = set_back banks bank closing off off inside is in
-        rw (none.0, none.1) (λ i. gated_by (untouched i) (back i))
+        rw off-now (λ i. gated_by (untouched i) (back i))
 
 -- what storing the state of a bank leaves
 module _ (states banks : List ℕ) (bank state : ℕ) (inside : bank < length banks) where

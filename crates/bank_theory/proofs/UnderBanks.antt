@@ -1,7 +1,7 @@
 -- The row under banks is a row that calls of its own give (docs/RULES.md, B2, B3): the calls that the banks let through, and
 -- for each cut a drop of each frame of its bank. So what holds of the row alone holds of it.
 use Rattle.std.specs.Prelude.{ℕ, ◌*◌, ◌≡◌, true, ◌&&◌, List, [], ◌∷◌, ◌++◌}
-use Rattle.std.proofs.Common.{arith, sym, ◌∙◌, eqb-true}
+use Rattle.std.proofs.Common.{arith, sym, ◌∙◌}
 use Rattle.std.proofs.Math.Path.{refl, ap}
 use Rattle.rules.specs.Limits.{bank_frames}
 use Rattle.rules.specs.Cases.{by_cases, and_left, and_right}
@@ -12,7 +12,7 @@ use Rattle.row_theory.specs.History.{states_after}
 use Rattle.row_theory.proofs.GoodStates.{good_after, states_refused}
 use Rattle.row_theory.proofs.SoundRow.{sound_after, after_accepted, after_refused}
 use Rattle.bank_theory.specs.declared.Gating.{Gating}
-use Rattle.bank_theory.specs.Banks.{Step, of_frame, of_bank, in_bank, is_cut, gating_refusal, takes, cuts, shut, states_under}
+use Rattle.bank_theory.specs.Banks.{Step, of_frame, of_bank, in_bank, is_cut, takes, cuts, shut, states_under}
 use Rattle.bank_theory.specs.Banks.{banks_under}
 use Rattle.bank_theory.specs.BankHistory.{Seen, seen_then, seen_after}
 use Rattle.bank_theory.specs.Gated.{Gated, fresh_gated, row_without, row_under, gated_then}
@@ -48,7 +48,7 @@ same_seen (step ∷ history) = seen_then_law (gated_after history) step ∙ ap (
 
 -- B2: a cut is a drop of each frame of its bank
 pub cut_drops : (calls : List Call) (banks : List ℕ) (gating : Gating) (bank : ℕ) → is_cut gating ≡ true →
-    gating_refusal (row_after calls).states banks gating bank ≡ 0 →
+    takes (row_after calls).states banks gating bank ≡ true →
     row_without (in_bank bank) (row_after calls) ≡ row_after (drops (bank * bank_frames) bank_frames ++ calls)
 cut_drops calls banks gating bank cut ok =
     let first = bank * bank_frames in
@@ -75,7 +75,7 @@ row_then_law gated calls (of_bank gating bank) same =
     (λ both. rw both
     (ap (row_without (in_bank bank)) same ∙
     cut_drops calls gated.banks gating bank (and_left (is_cut gating) ok both)
-    (rw (← same) (eqb-true _ 0 (and_right (is_cut gating) ok both)))))
+    (rw (← same) (and_right (is_cut gating) ok both))))
     (λ kept. rw kept same)
 
 -- B2, B3: what holds of the row alone holds of the row under banks

@@ -1,9 +1,10 @@
 -- Call histories of a row under banks (docs/RULES.md, B1 to B6): what a sequence of calls says by itself. Nothing here knows
 -- of slots, as the imports show. A history is the calls of frames and of banks so far, latest first, refused ones included.
-use Rattle.std.specs.Prelude.{ℕ, ◌+◌, ◌≡◌, Bool, cond, not, ◌&&◌, List, [], ◌∷◌, eqb, length}
+use Rattle.std.specs.Prelude.{ℕ, ◌+◌, ◌≡◌, Bool, cond, not, ◌&&◌, List, [], ◌∷◌, eqb, length, Result}
+use Rattle.rules.specs.declared.Frame.{Frame}
+use Rattle.rules.specs.declared.refusal.Refusal.{Refusal}
 use Rattle.row_theory.specs.States.{Call, idle, state_of, accepts, moves, fresh_states}
 use Rattle.row_theory.specs.History.{VictimOf}
-use Rattle.row_theory.specs.declared.Victim.{Victim}
 use Rattle.bank_theory.specs.Banks.{Step, of_frame, of_bank, bank_of, opened, bank_state, fresh_banks, shut}
 use Rattle.bank_theory.specs.Banks.{states_under, banks_under}
 
@@ -44,6 +45,6 @@ MayGoUnder history frame =
     (state_of (seen_after history).states frame ≡ idle) × (bank_state (seen_after history).banks (bank_of frame) ≡ opened)
 
 -- B4, R26, R27: what an answer to asking for a victim says of the history
-abbrev pub VictimSaysUnder : List Step → Victim → Type 0
+abbrev pub VictimSaysUnder : List Step → Result Frame Refusal → Type 0
 VictimSaysUnder history victim =
     VictimOf (MayGoUnder history) (moment_under history) (seen_after history).states victim

@@ -1,13 +1,13 @@
 -- What the calls of the row under banks promise (docs/RULES.md, D1, A1, A3, B1 to B5), over memory that the caller lends.
-use Rattle.std.specs.Prelude.{ℕ, ◌*◌, ◌≡◌, List, ◌∷◌, get_or}
+use Rattle.std.specs.Prelude.{ℕ, ◌*◌, ◌≡◌, List, ◌∷◌, get_or, Result}
 use Rattle.rules.specs.Limits.{frames, bank_frames}
 use Rattle.rules.specs.Limits
 use Rattle.rules.specs.Lists.{values_from}
+use Rattle.rules.specs.declared.Frame.{Frame}
+use Rattle.rules.specs.declared.refusal.Refusal.{Refusal}
 use Rattle.row_theory.specs.Slots.{places_in}
 use Rattle.row_theory.specs.Row.{Row, reply_number, reply_place}
 use Rattle.row_theory.specs.Promise.{Memory, row_in}
-use Rattle.row_theory.specs.declared.Reply.{Reply}
-use Rattle.row_theory.specs.declared.Victim.{Victim}
 use Rattle.bank_theory.specs.Banks.{Step, bank_of, off, bank_state, refusal_under}
 use Rattle.bank_theory.specs.BankHistory.{seen_after, VictimSaysUnder}
 use Rattle.bank_theory.specs.Gated.{Gated, fresh_gated, gated_then, reply_under, victim_under}
@@ -48,14 +48,14 @@ pub record StandsUnder (m : BankMemory) : Type 0 where
 
 -- what a reply and the state after it say of a history before the call: the number is the one that the history says (0:
 -- accepted), the place is 0, and the state is that of the longer history
-pub record ReplySaysUnder (history : List Step) (step : Step) (reply : Reply) (gated' : Gated) : Type 0 where
+pub record ReplySaysUnder (history : List Step) (step : Step) (reply : Result ℕ Refusal) (gated' : Gated) : Type 0 where
   pub number : reply_number reply ≡ refusal_under (seen_after history).states (seen_after history).banks step
   pub place : reply_place reply ≡ 0
   pub next : gated' ≡ gated_after (step ∷ history)
 
 -- any call, of a frame or of a bank: the whole answer and the whole state after it, which again is one that calls give; and what
 -- that says of any history that gives the state
-pub record AnsweredUnder (m : BankMemory) (step : Step) (reply : Reply) (m' : BankMemory) : Type 0 where
+pub record AnsweredUnder (m : BankMemory) (step : Step) (reply : Result ℕ Refusal) (m' : BankMemory) : Type 0 where
   pub answer : reply ≡ reply_under (gated_in m) step
   pub next : gated_in m' ≡ gated_then (gated_in m) step
   pub stands : StandsUnder m'
@@ -67,6 +67,6 @@ pub record FreshBanks (m : BankMemory) : Type 0 where
   pub stands : StandsUnder m
 
 -- B4, R26, R27: the oldest idle frame in an open bank: the whole answer, and what it says of any history that gives the state
-pub record OldestOpen (gated : Gated) (victim : Victim) : Type 0 where
+pub record OldestOpen (gated : Gated) (victim : Result Frame Refusal) : Type 0 where
   pub answer : victim ≡ victim_under gated
   pub says : (history : List Step) → gated_after history ≡ gated → VictimSaysUnder history victim

@@ -2,12 +2,15 @@
 -- refused, and what an accepted one makes of the states of frames and banks. Nothing here knows of slots, as the imports
 -- show.
 use Rattle.std.specs.Prelude.{ℕ, zero, suc, ◌*◌, ◌/◌, Bool, true, false, cond, not, ◌&&◌, ◌||◌, List, leb, ltb, eqb}
-use Rattle.std.specs.Prelude.{get_or, set, replicate}
+use Rattle.std.specs.Prelude.{get_or, replicate, Result, Ok, Err, is_ok}
+use Rattle.std.specs.Result.{result_and}
 use Rattle.rules.specs.Limits.{frames, bank_frames}
 use Rattle.rules.specs.Limits
-use Rattle.rules.specs.Refusals.{wrong_bank_state, bank_busy, bad_bank, bank_not_open}
+use Rattle.rules.specs.Refusals.{bank_not_open}
+use Rattle.rules.specs.declared.refusal.Refusal.{Refusal}
+use Rattle.rules.specs.declared.refusal.Refusal.TheVariants.{WrongBankState, BankBusy, BadBank}
 use Rattle.rules.specs.Lists.{values_from}
-use Rattle.row_theory.specs.States.{Call, absent, busy, state_of, refusal_of, states_then}
+use Rattle.row_theory.specs.States.{Call, absent, busy, state_of, number_in, refusal_of, states_by, states_then}
 use Rattle.row_theory.specs.declared.Event.{Event}
 use Rattle.row_theory.specs.declared.Event.TheVariants.{Put, Touch, Start, End, Drop}
 use Rattle.bank_theory.specs.declared.Gating.{Gating}
@@ -48,10 +51,10 @@ unfoldable pub in_open : List ℕ → ℕ → Bool
 in_open banks frame = eqb (bank_state banks (bank_of frame)) opened
 
 -- B2: the state that a bank call gives a bank in this state, or 30
-unfoldable pub gated_to : Gating → ℕ → ℕ
-gated_to Close state = cond (eqb state opened) closing wrong_bank_state
-gated_to Cut state = cond (eqb state closing) off wrong_bank_state
-gated_to Open state = cond (not (eqb state opened)) opened wrong_bank_state
+unfoldable pub gated_to : Gating → ℕ → Result ℕ Refusal
+gated_to Close state = cond (eqb state opened) (Ok closing) (Err WrongBankState)
+gated_to Cut state = cond (eqb state closing) (Ok off) (Err WrongBankState)
+gated_to Open state = cond (not (eqb state opened)) (Ok opened) (Err WrongBankState)
 
 abbrev pub is_cut : Gating → Bool
 is_cut Close = false
@@ -67,16 +70,20 @@ busy_from states frame (suc more) = eqb (state_of states frame) busy || busy_fro
 abbrev pub busy_in : List ℕ → ℕ → Bool
 busy_in states bank = busy_from states (bank * bank_frames) bank_frames
 
--- O8: 32, then 30, then 31 for a cut; 0 stands for "no refusal"
+-- O8, the verdict on a bank call: 32, then 30, then 31 for a cut; and if none applies the state that it gives its bank
+unfoldable pub gating_verdict : List ℕ → List ℕ → Gating → ℕ → Result ℕ Refusal
+gating_verdict states banks gating bank =
+    cond (leb Limits.banks bank) (Err BadBank)
+    (result_and (gated_to gating (bank_state banks bank))
+    (cond (is_cut gating && busy_in states bank) (Err BankBusy) (gated_to gating (bank_state banks bank))))
+
+-- the refusal's number; 0 stands for "no refusal"
 unfoldable pub gating_refusal : List ℕ → List ℕ → Gating → ℕ → ℕ
-gating_refusal states banks gating bank =
-    cond (leb Limits.banks bank) bad_bank
-    (cond (eqb (gated_to gating (bank_state banks bank)) wrong_bank_state) wrong_bank_state
-    (cond (is_cut gating && busy_in states bank) bank_busy 0))
+gating_refusal states banks gating bank = number_in (gating_verdict states banks gating bank)
 
 -- is a bank call accepted, and is it an accepted cut?
 abbrev pub takes : List ℕ → List ℕ → Gating → ℕ → Bool
-takes states banks gating bank = eqb (gating_refusal states banks gating bank) 0
+takes states banks gating bank = is_ok (gating_verdict states banks gating bank)
 
 abbrev pub cuts : List ℕ → List ℕ → Gating → ℕ → Bool
 cuts states banks gating bank = is_cut gating && takes states banks gating bank
@@ -114,5 +121,4 @@ states_under states banks (of_bank gating bank) =
 
 unfoldable pub banks_under : List ℕ → List ℕ → Step → List ℕ
 banks_under states banks (of_frame call) = banks
-banks_under states banks (of_bank gating bank) =
-    cond (takes states banks gating bank) (set banks bank (gated_to gating (bank_state banks bank))) banks
+banks_under states banks (of_bank gating bank) = states_by banks bank (gating_verdict states banks gating bank)

@@ -1,13 +1,13 @@
 -- The row under banks (docs/RULES.md, B1 to B5): its whole state, what each call makes of it, and what each call answers.
-use Rattle.std.specs.Prelude.{ℕ, Bool, cond, List, map}
-use Rattle.rules.specs.Refusals.{bank_not_open}
+use Rattle.std.specs.Prelude.{ℕ, Bool, cond, List, map, Result, Ok, Err}
+use Rattle.std.specs.Result.{result_and}
+use Rattle.rules.specs.declared.Frame.{Frame}
+use Rattle.rules.specs.declared.refusal.Refusal.{Refusal}
+use Rattle.rules.specs.declared.refusal.Refusal.TheVariants.{BankNotOpen}
 use Rattle.row_theory.specs.States.{held_in}
 use Rattle.row_theory.specs.Slots.{empty}
 use Rattle.row_theory.specs.Row.{Row, empty_row, after, reply_of, victim_among}
-use Rattle.row_theory.specs.declared.Reply.{Reply}
-use Rattle.row_theory.specs.declared.Reply.TheVariants.{Done, Refused}
-use Rattle.row_theory.specs.declared.Victim.{Victim}
-use Rattle.bank_theory.specs.Banks.{Step, of_frame, of_bank, in_bank, in_open, fresh_banks, gating_refusal, takes, cuts}
+use Rattle.bank_theory.specs.Banks.{Step, of_frame, of_bank, in_bank, in_open, fresh_banks, gating_verdict, cuts}
 use Rattle.bank_theory.specs.Banks.{shut, states_without, banks_under}
 
 -- the whole state: the row, and the states of all banks
@@ -43,17 +43,11 @@ row_under gated (of_bank gating bank) =
 unfoldable pub gated_then : Gated → Step → Gated
 gated_then gated step = record { row = row_under gated step; banks = banks_under gated.row.states gated.banks step }
 
--- A1: a refusal has place 0
-abbrev pub refused_reply : ℕ → Reply
-refused_reply number = Refused (record { number = number; place = 0 })
-
 -- A1, B3, B5: what any call answers; a bank call examines no slot
-unfoldable pub reply_under : Gated → Step → Reply
-reply_under gated (of_frame call) = cond (shut gated.banks call) (refused_reply bank_not_open) (reply_of gated.row call)
-reply_under gated (of_bank gating bank) =
-    cond (takes gated.row.states gated.banks gating bank) (Done 0)
-    (refused_reply (gating_refusal gated.row.states gated.banks gating bank))
+unfoldable pub reply_under : Gated → Step → Result ℕ Refusal
+reply_under gated (of_frame call) = cond (shut gated.banks call) (Err BankNotOpen) (reply_of gated.row call)
+reply_under gated (of_bank gating bank) = result_and (gating_verdict gated.row.states gated.banks gating bank) (Ok 0)
 
 -- B4: the oldest idle frame in an open bank
-abbrev pub victim_under : Gated → Victim
+abbrev pub victim_under : Gated → Result Frame Refusal
 victim_under gated = victim_among (in_open gated.banks) gated.row

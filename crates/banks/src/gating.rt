@@ -1,35 +1,25 @@
 // What a bank call does to its bank (rules B2, O8): its next state, the transfers that forbid a cut, its frames leaving the
 // row, and its frames' gates.
-ghost use Rattle.std.specs.Prelude.{◌≡◌, cond, ◌+◌, ◌<◌, ◌≤◌, length};
+ghost use Rattle.std.specs.Prelude.{◌≡◌, ◌+◌, ◌<◌, ◌≤◌, length};
 ghost use Rattle.rules.specs.Limits.{frames, bank_frames};
-ghost use Rattle.rules.specs.Refusals.{wrong_bank_state};
 ghost use Rattle.row_theory.specs.Promise.{Stands, memory};
 ghost use Rattle.bank_theory.specs.Banks.{gated_to as «gated_to_of», busy_from as «busy_from_of»};
 ghost use Rattle.bank_theory.specs.BankLending.{Leavable, DroppedOne, Dropped, Stored};
 
 use bank_theory::{CLOSING, Gating, OFF, OPEN};
 use row_theory::{BUSY, Event, IDLE, PerFrame, PerSlot};
-use rules::{BANK_FRAMES, Frame, WRONG_BANK_STATE};
-
-// The state that a bank goes to where it may, and 30 where it may not.
-fn allowed(may: bool, to: u8) -> u8
-    ensures { result ≡ cond may to wrong_bank_state }
-{
-    if may {
-        return to;
-    }
-    WRONG_BANK_STATE
-}
+use rules::{BANK_FRAMES, Frame, Refusal};
 
 // The state that the call gives a bank in this state, or 30.
 #[tactic(auto, unfolding(bank_theory::specs::Banks::gated_to))]
-pub(crate) fn gated_to(gating: Gating, state: u8) -> u8
+pub(crate) fn gated_to(gating: Gating, state: u8) -> Result<u8, Refusal>
     ensures { result ≡ «gated_to_of» gating state }
 {
     match gating {
-        Gating::Close => allowed(state == OPEN, CLOSING),
-        Gating::Cut => allowed(state == CLOSING, OFF),
-        Gating::Open => allowed(state != OPEN, OPEN),
+        Gating::Close if state == OPEN => Ok(CLOSING),
+        Gating::Cut if state == CLOSING => Ok(OFF),
+        Gating::Open if state != OPEN => Ok(OPEN),
+        _ => Err(Refusal::WrongBankState),
     }
 }
 
@@ -38,15 +28,7 @@ pub(crate) fn busy_from(states: &PerFrame, first: usize) -> bool
     requires { first + bank_frames ≤ frames }
     ensures { result ≡ «busy_from_of» states.now first bank_frames }
 {
-    let end = first + BANK_FRAMES as usize;
-    let mut i = first;
-    while i < end {
-        if states[i] == BUSY {
-            return true;
-        }
-        i += 1;
-    }
-    false
+    states[first..first + BANK_FRAMES as usize].contains(&BUSY)
 }
 
 // A frame leaves the row if it is idle: one that is absent or busy has nothing to drop.
@@ -65,7 +47,8 @@ fn leave_one(
     if states[frame as usize] != IDLE {
         return;
     }
-    row::call(
+    // the drop of an idle frame is accepted
+    let _ = row::call(
         slots,
         places,
         states,
@@ -89,11 +72,8 @@ pub(crate) fn leave(
     ensures { Dropped (memory slots.old places.old states.old front.old held.old) first bank_frames
         (memory slots.new places.new states.new front.new held.new) }
 {
-    let end = first + BANK_FRAMES;
-    let mut frame = first;
-    while frame < end {
+    for frame in first..first + BANK_FRAMES {
         leave_one(slots, places, states, front, held, frame);
-        frame += 1;
     }
 }
 
@@ -102,10 +82,5 @@ pub(crate) fn store(gates: &mut PerFrame, first: usize, state: u8)
     requires { (first + bank_frames ≤ frames) × (length gates.old ≡ frames) }
     ensures { Stored gates.old first bank_frames state gates.new }
 {
-    let end = first + BANK_FRAMES as usize;
-    let mut i = first;
-    while i < end {
-        gates[i] = state;
-        i += 1;
-    }
+    gates[first..first + BANK_FRAMES as usize].fill(state);
 }

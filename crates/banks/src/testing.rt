@@ -3,8 +3,7 @@
 ghost use Rattle.std.specs.Prelude.{◌≡◌, ◌<◌, length};
 ghost use Rattle.rules.specs.Limits.{frames, banks as bank_count};
 ghost use Rattle.rules.specs.AllBelow.{all_below};
-ghost use Rattle.bank_theory.specs.BankTest.{bank_sound as «bank_sound_of», BanksTested};
-ghost use Rattle.bank_theory.specs.BankLending.{GateTested};
+ghost use Rattle.bank_theory.specs.BankTest.{gate_sound as «gate_sound_of», bank_sound as «bank_sound_of», BanksTested};
 ghost use Rattle.bank_theory.specs.BankPromise.{bank_memory};
 ghost use Rattle.row_theory.specs.Promise.{memory};
 
@@ -13,26 +12,27 @@ use row_theory::{ABSENT, PerFrame, PerSlot};
 use rules::{BANK_FRAMES, BANKS, both, pick};
 
 // A frame's gate is that of the first frame of its bank, and one of the three; where it is off, the frame is absent.
+#[tactic(auto, unfolding(bank_theory::specs::BankTest::gate_sound))]
 fn gate_sound(gates: &[u8], states: &[u8], first: usize, frame: usize) -> bool
     requires { (length gates.now ≡ frames) × (length states.now ≡ frames) × (first < frames) × (frame < frames) }
-    ensures { GateTested gates.now states.now first frame result }
+    ensures { result ≡ «gate_sound_of» gates.now states.now first frame }
 {
     let gate = gates[frame];
     let fits = pick(gate == OFF, states[frame] == ABSENT, gate <= CLOSING);
     both(gate == gates[first], fits)
 }
 
-// So it is of each frame of a bank. As in the row's test this loop does not stop where one has failed.
+// So it is of each frame of a bank. As in the row's test this loop does not stop where one has failed. It is written out: what
+// it tests is made of two numbers, and `all_pass` of `row` gives one.
+#[tactic(auto, unfolding(rules::specs::AllBelow::all_below, bank_theory::specs::BankTest::bank_sound))]
 fn bank_sound(gates: &[u8], states: &[u8], bank: usize) -> bool
     requires { (length gates.now ≡ frames) × (length states.now ≡ frames) × (bank < bank_count) }
     ensures { result ≡ «bank_sound_of» gates.now states.now bank }
 {
     let first = bank * BANK_FRAMES as usize;
     let mut sound = true;
-    let mut n = 0;
-    while n < BANK_FRAMES as usize {
+    for n in 0..BANK_FRAMES as usize {
         sound = both(sound, gate_sound(gates, states, first, first + n));
-        n += 1;
     }
     sound
 }
@@ -42,14 +42,7 @@ fn gates_sound(gates: &[u8], states: &[u8]) -> bool
     requires { (length gates.now ≡ frames) × (length states.now ≡ frames) }
     ensures { result ≡ all_below («bank_sound_of» gates.now states.now) bank_count }
 {
-    let mut bank = 0;
-    while bank < BANKS as usize {
-        if !bank_sound(gates, states, bank) {
-            return false;
-        }
-        bank += 1;
-    }
-    true
+    (0..BANKS as usize).all(|bank| bank_sound(gates, states, bank))
 }
 
 // Are these banks and their row such as fresh ones and calls give?
@@ -64,8 +57,5 @@ pub fn sound(
     ensures { BanksTested
         (bank_memory (memory slots.now places.now states.now front held) gates.now) result }
 {
-    if !row::sound(slots, places, states, front, held) {
-        return false;
-    }
-    gates_sound(gates, states)
+    row::sound(slots, places, states, front, held) && gates_sound(gates, states)
 }

@@ -1,36 +1,34 @@
 -- Whole traces: which refusal is given (rules O1 and O2), and what the hit table holds afterwards (rule A4).
 use Rattle.std.specs.Prelude.{ℕ, not, ◌≡◌, List, [], ◌++◌, leb, ltb, length, drop}
 use Rattle.rules.specs.Limits.{policies, references, is_capacity}
-use Rattle.rules.specs.Refusals.{bad_policy, bad_limit, too_many_references, short_table, past_the_trace}
-use Rattle.rules.specs.Refusals.{refuse_if, first_bad_page, when_accepted}
-use Rattle.rules.specs.declared.Answer.{Answer}
-use Rattle.rules.specs.declared.Answer.TheVariants.{Accepted}
+use Rattle.rules.specs.Refusals.{Answer, accepted, refuse_if, first_bad_page, when_accepted}
+use Rattle.rules.specs.declared.refusal.Refusal.TheVariants.{BadPolicy, BadLimit, TooManyReferences, ShortTable, PastTheTrace}
 use Rattle.theory.specs.Plain.{hits_up_to}
 use Rattle.theory.specs.OnePass.{list_of}
 
 -- both orders begin with 5, 1, 2
 abbrev pub within_limits : ℕ → ℕ → ℕ → Answer → Answer
 within_limits policy k count rest =
-    refuse_if (leb policies policy) bad_policy
-    (refuse_if (not (is_capacity k)) bad_limit
-    (refuse_if (ltb references count) too_many_references
+    refuse_if (leb policies policy) BadPolicy
+    (refuse_if (not (is_capacity k)) BadLimit
+    (refuse_if (ltb references count) TooManyReferences
     rest))
 
 -- O1: 5, 1, 2, 4, 3
 unfoldable pub count_answer : ℕ → ℕ → ℕ → List ℕ → Answer
 count_answer policy k room trace =
     within_limits policy k (length trace)
-    (refuse_if (ltb room k) short_table
+    (refuse_if (ltb room k) ShortTable
     (first_bad_page 0 trace
-    Accepted))
+    accepted))
 
 -- O2: 5, 1, 2, 3, 14
 unfoldable pub list_answer : ℕ → ℕ → List ℕ → ℕ → Answer
 list_answer policy k trace t =
     within_limits policy k (length trace)
     (first_bad_page 0 trace
-    (refuse_if (ltb (length trace) t) past_the_trace
-    Accepted))
+    (refuse_if (ltb (length trace) t) PastTheTrace
+    accepted))
 
 -- A3, A4: the hits at each capacity, and later entries as they were; a refusal leaves the table
 unfoldable pub count_table : ℕ → ℕ → List ℕ → List ℕ → List ℕ

@@ -1,15 +1,14 @@
--- The list of a trace (rules M8, A6, O2): what the call shows.
-use Rattle.std.specs.Prelude.{ℕ, ◌≡◌, List, [], length}
-use Rattle.rules.specs.Refusals.{refusal}
+-- The list of a trace (rules M8, A6, O2): what the call shows; a refusal shows no list.
+use Rattle.std.specs.Prelude.{ℕ, ◌≡◌, List, length, Result}
+use Rattle.rules.specs.Refusals.{giving}
+use Rattle.rules.specs.declared.refusal.Refusal.{Refusal}
 use Rattle.kept.specs.Shown.{places_of}
+use Rattle.kept.specs.declared.shown.Listing.{Listing}
 use Rattle.count.specs.Count.{list_answer, list_shown}
-use Rattle.count.specs.declared.Listed.{Listed}
 
-pub record Showing (trace : List ℕ) (policy k t : ℕ) (r : Listed) : Type 0 where
-  pub answer_is : r.answer ≡ list_answer policy k trace t
-  pub length_is : r.length ≡ length (list_shown policy k trace t)
-  pub places_are : r.places ≡ places_of (list_shown policy k trace t)
+-- a list with its length
+abbrev pub listing_of : List ℕ → Listing
+listing_of l = record { length = length l; places = places_of l }
 
--- a refusal shows the empty list
-abbrev pub unlisted : ℕ → ℕ → Listed
-unlisted number place = record { answer = refusal number place; length = 0; places = places_of [] }
+pub record Showing (trace : List ℕ) (policy k t : ℕ) (r : Result Listing Refusal) : Type 0 where
+  pub shown : r ≡ giving (list_answer policy k trace t) (listing_of (list_shown policy k trace t))

@@ -1,6 +1,6 @@
 -- OPT's look ahead, from the trace's end to its start: what the backward pass has found when `i` references are left.
 use Prim.Native.Nat.{ℕ, zero, suc, ◌+◌, ◌-◌, ◌≤◌, ◌<◌}
-use Rattle.std.proofs.Common.{arith, add-one, sym, ◌∙◌, ap, take-append-drop, length-append}
+use Rattle.std.proofs.Common.{arith, sym, ◌∙◌, ap, take-append-drop, length-append}
 use Rattle.std.specs.Prelude.{◌≡◌, take, set, replicate}
 use mathlib.Core.List.{List, [], ◌∷◌, ◌++◌, append_assoc}
 use Rattle.std.proofs.Math.ListN.{length, drop, get_or, length-drop, get_or-append}
@@ -29,40 +29,37 @@ pub ahead_page : {trace memory : List ℕ} → LookAhead trace memory → (j : �
     → get_or trace j 0 < pages
 ahead_page {trace} asked j h = below_at pages trace j asked.good h
 
-module _ {trace memory found near : List ℕ} (asked : LookAhead trace memory) where
-  ahead_step : (j : ℕ) → suc j ≤ length trace → Ahead trace memory (suc j) found near
-      → Ahead trace memory j (set found j (get_or near (get_or trace j 0) 0))
-      (set near (get_or trace j 0) (length trace - suc j + 1))
-  unfolding nexts coming
-  ahead_step j h a =
-      let x : ℕ = get_or trace j 0 in
-      let behind : List ℕ = nexts (drop (suc j) trace) ++ drop (length trace) memory in
-      let is : drop j trace ≡ get_or trace j 0 ∷ drop (suc j) trace = drop-cons trace j 0 h in
-      let next : get_or near (get_or trace j 0) 0 ≡ nearness (get_or trace j 0) (drop (suc j) trace) =
-      rw a.near_is (coming_is (drop (suc j) trace) (below_drop pages (suc j) trace asked.good) x) in
-      let long : length (take j memory) ≡ j = length-take-le j memory (omega (arith, asked.short, asked.room)) in
-      record {
-        left = omega arith;
-        found_is =
-            rw (
-              next,
-              a.found_is,
-              is,
-              take-suc memory j 0 (omega (arith, asked.short, asked.room)),
-              append_assoc (take j memory) (get_or memory j 0 ∷ []) behind,
-              set_at (take j memory) (get_or memory j 0) behind (nearness x (drop (suc j) trace)) j long,
-            );
-        near_is = rw (a.near_is, is, length-drop (suc j) trace, add-one);
-      }
-
-  pub ahead_next : (i : ℕ) → 0 < i → Ahead trace memory i found near
-      → Ahead trace memory (i - 1) (set found (i - 1) (get_or near (get_or trace (i - 1) 0) 0))
-      (set near (get_or trace (i - 1) 0) (length trace - i + 1))
-  ahead_next zero h a = absurd (omega arith)
-  ahead_next (suc j) h a = rw (one_less j) (ahead_step j a.left a)
-    where
-      one_less : (j : ℕ) → suc j - 1 ≡ j
-      one_less j = omega arith
+-- one reference less is left
+pub ahead_next : {trace memory found near : List ℕ} → LookAhead trace memory → (j i : ℕ) → i ≡ j + 1
+    → Ahead trace memory i found near
+    → Ahead trace memory j (set found j (get_or near (get_or trace j 0) 0)) (set near (get_or trace j 0) (length trace - j))
+unfolding nexts coming
+ahead_next {trace} {memory} {found} {near} asked j i one a =
+    let x : ℕ = get_or trace j 0 in
+    let h : j < length trace = omega (arith, one, a.left) in
+    let this : i ≡ suc j = omega (arith, one) in
+    let behind : List ℕ = nexts (drop (suc j) trace) ++ drop (length trace) memory in
+    let is : drop j trace ≡ get_or trace j 0 ∷ drop (suc j) trace = drop-cons trace j 0 h in
+    let found_is : found ≡ take (suc j) memory ++ (nexts (drop (suc j) trace) ++ drop (length trace) memory) =
+    rw this at a.found_is in
+    let near_is : near ≡ coming (drop (suc j) trace) = rw this at a.near_is in
+    let next : get_or near (get_or trace j 0) 0 ≡ nearness (get_or trace j 0) (drop (suc j) trace) =
+    rw near_is (coming_is (drop (suc j) trace) (below_drop pages (suc j) trace asked.good) x) in
+    let long : length (take j memory) ≡ j = length-take-le j memory (omega (arith, h, asked.short, asked.room)) in
+    let ahead : length trace - j ≡ suc (length trace - suc j) = omega (arith, h) in
+    record {
+      left = omega (arith, h);
+      found_is =
+          rw (
+            next,
+            found_is,
+            is,
+            take-suc memory j 0 (omega (arith, h, asked.short, asked.room)),
+            append_assoc (take j memory) (get_or memory j 0 ∷ []) behind,
+            set_at (take j memory) (get_or memory j 0) behind (nearness x (drop (suc j) trace)) j long,
+          );
+      near_is = rw (near_is, is, length-drop (suc j) trace, ahead);
+    }
 
 pub ahead_end : {trace memory found near : List ℕ} (i : ℕ) → i ≤ 0 → Ahead trace memory i found near
     → found ≡ nexts trace ++ drop (length trace) memory

@@ -1,39 +1,39 @@
 // The refusals that a whole trace and a list of a trace share.
-ghost use Rattle.count.specs.Checks.{limits_number};
-ghost use Rattle.rules.specs.FirstBad.{first_bad as «first_bad_of»};
-ghost use Rattle.std.specs.Prelude.{◌≡◌};
+ghost use Rattle.count.specs.Checks.{Limited};
+ghost use Rattle.rules.specs.Refusals.{accepted, first_bad_page};
+ghost use Rattle.rules.specs.Limits.{pages};
+ghost use Rattle.std.specs.List.{position};
+ghost use Rattle.std.specs.Prelude.{leb, ◌≡◌};
 
-use rules::{BAD_LIMIT, BAD_POLICY, CAPACITIES, PAGES, POLICIES, REFERENCES, TOO_MANY_REFERENCES};
+use rules::{CAPACITIES, PAGES, Policy, REFERENCES, Refusal};
 
-// The number of the first of refusals 5, 1 and 2 that applies, or 0.
-pub(crate) fn limits(policy: u8, k: usize, references: usize) -> u8
-    ensures { result ≡ limits_number policy k references }
+// The policy of a number, or the first of refusals 5, 1 and 2 that applies.
+pub(crate) fn limits(policy: u8, k: usize, references: usize) -> Result<Policy, Refusal>
+    ensures { Limited policy k references result }
 {
-    if POLICIES <= policy {
-        return BAD_POLICY;
-    }
-    if k < 1 {
-        return BAD_LIMIT;
-    }
-    if CAPACITIES < k {
-        return BAD_LIMIT;
+    let policy = Policy::try_from(policy)?;
+    if k < 1 || CAPACITIES < k {
+        return Err(Refusal::BadLimit);
     }
     if REFERENCES < references {
-        return TOO_MANY_REFERENCES;
+        return Err(Refusal::TooManyReferences);
     }
-    0
+    Ok(policy)
 }
 
-// The index of the first reference that is no page, or the trace's length.
-pub(crate) fn first_bad(trace: &[u16]) -> usize
-    ensures { result ≡ «first_bad_of» 0 trace.now }
+// The index of the first reference that is no page.
+fn first_bad(trace: &[u16]) -> Option<usize>
+    ensures { result ≡ position (λ page. leb pages page) trace.now }
 {
-    let mut i = 0;
-    while i < trace.len() {
-        if PAGES <= trace[i] {
-            return i;
-        }
-        i += 1;
+    trace.iter().position(|&page| PAGES <= page)
+}
+
+// Refusal 3, at the first reference that is no page.
+pub(crate) fn all_pages(trace: &[u16]) -> Result<(), Refusal>
+    ensures { result ≡ first_bad_page 0 trace.now accepted }
+{
+    match first_bad(trace) {
+        Some(i) => Err(Refusal::BadPage(i)),
+        None => Ok(()),
     }
-    i
 }

@@ -1,14 +1,12 @@
 -- For whoever drives a session through the exported calls: what an accepted start leaves passes the tests of the other
 -- calls, and so does what each of them leaves. What crate session proves of every memory that a start and calls gave says
 -- it for these.
-use Rattle.std.specs.Prelude.{ℕ, suc, ◌<◌, Bool, true, false, not, ◌&&◌, ◌≡◌, refl, List, [], leb, length}
+use Rattle.std.specs.Prelude.{ℕ, suc, ◌<◌, Bool, true, false, not, ◌&&◌, ◌≡◌, refl, List, [], leb, length, Ok, Err}
 use Rattle.std.proofs.Common.{arith, sym, ◌∙◌, ap}
 use Rattle.rules.specs.Limits.{capacities, references, pages, opt, is_capacity}
 use Rattle.rules.specs.Cases.{by_cases}
-use Rattle.rules.specs.Refusals.{unsound, number_of}
+use Rattle.rules.specs.Refusals.{Answer, accepted, unsound, number_of}
 use Rattle.rules.specs.Told.{Told, tested_told}
-use Rattle.rules.specs.declared.Answer.{Answer}
-use Rattle.rules.specs.declared.Answer.TheVariants.{Accepted, Refused}
 use Rattle.session.specs.declared.Session.{Session}
 use Rattle.session.specs.History.{start_answer, reference_answer, capacity_answer}
 use Rattle.session.specs.Lent.{Lent}
@@ -39,7 +37,7 @@ sound_passes m e =
     record { numbers = (countable_fits m.value m.depths adds).0; depths = adds; whole = e }
 
 -- no refusal of a start has number 0
-not_refused : (policy k : ℕ) → number_of (start_answer policy k) ≡ 0 → start_answer policy k ≡ Accepted
+not_refused : (policy k : ℕ) → number_of (start_answer policy k) ≡ 0 → start_answer policy k ≡ accepted
 not_refused policy k none =
     by_cases (leb opt policy) (λ bad. absurd (omega (arith, rw bad at none)))
     (λ good.
@@ -49,9 +47,9 @@ not_refused policy k none =
 module _ {policy k : ℕ} {before after : Lent} (p : StartTold policy k before after 0) where
   pub start_given : Given policy k [] after
   start_given =
-      let accepted = not_refused policy k (sym p.answered) in
-      let left : after ≡ start_lent policy k = p.memory ∙ rw accepted in
-      rw left (start_gives {places = []} {depths = []} {counts = []} (start_begun accepted) accepted)
+      let taken = not_refused policy k (sym p.answered) in
+      let left : after ≡ start_lent policy k = p.memory ∙ rw taken in
+      rw left (start_gives {places = []} {depths = []} {counts = []} (start_begun taken) taken)
 
   pub start_passes : Passes after
   start_passes = given_passes start_given
@@ -77,8 +75,8 @@ module _ {before after : Lent} {page : ℕ} {answer : Told} (p : ReferTold befor
 
 -- R40: exactly where the test fails. No number that a session gives is 40
 small_told : (answer : Answer) (n : ℕ) → number_of answer < unsound → (told_with answer n).number < unsound
-small_told Accepted n small = small
-small_told (Refused r) n small = small
+small_told (Ok u) n small = small
+small_told (Err r) n small = small
 
 tested_40 : (passes : Bool) (a : Answer) (n : ℕ) {t : Told} → t ≡ tested_told passes (told_with a n) → number_of a < unsound →
     t.number ≡ unsound → passes ≡ false

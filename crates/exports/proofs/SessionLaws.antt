@@ -1,36 +1,25 @@
 -- What crate session answers, looked at by its cases, gives what the exported calls promise; and so does 40 where the test
 -- fails, since no history gives memory that fails it.
-use Rattle.std.specs.Prelude.{ℕ, suc, true, false, ◌≡◌, refl, List, map, length, replicate}
+use Rattle.std.specs.Prelude.{ℕ, suc, true, false, ◌≡◌, refl, List, map, replicate, Result, Ok, Err}
 use Rattle.std.proofs.Common.{arith, sym, ◌∙◌, ap, subst}
 use Rattle.rules.specs.Limits.{capacities, pages}
-use Rattle.rules.specs.Refusals.{when_accepted, unsound}
-use Rattle.rules.specs.Told.{Told, told}
+use Rattle.rules.specs.Refusals.{Answer, accepted, giving, when_accepted, unsound, refusal_number}
+use Rattle.rules.specs.Told.{Told, told, told_of}
 use Rattle.rules.specs.Cases.{clash}
-use Rattle.rules.specs.declared.Refusal.{Refusal}
-use Rattle.rules.specs.declared.Answer.{Answer}
-use Rattle.rules.specs.declared.Answer.TheVariants.{Accepted, Refused}
+use Rattle.rules.specs.declared.refusal.Refusal.{Refusal}
 use Rattle.session.specs.declared.Session.{Session}
-use Rattle.session.specs.declared.Started.{Started}
-use Rattle.session.specs.declared.Started.TheVariants as started
-use Rattle.session.specs.declared.Depth.{Depth}
-use Rattle.session.specs.declared.Listing.{Listing}
-use Rattle.session.specs.declared.Asked.{Asked}
-use Rattle.session.specs.History.{start_answer, reference_answer, capacity_answer}
-use Rattle.session.specs.History.{accepted_of, depth_of, hits_now, misses_now}
+use Rattle.kept.specs.declared.shown.Listing.{Listing}
+use Rattle.session.specs.History.{start_answer}
 use Rattle.session.specs.Lent.{Lent, lent_of}
-use Rattle.session.specs.AnyMemory.{depth_in, hits_in, misses_in}
 use Rattle.session.specs.Tests.{fits, countable}
 use Rattle.session.specs.TestLaws.{value_fits, value_countable}
-use Rattle.session.specs.Answers.{started_as, fresh, depth_as, Starting, Referring}
-use Rattle.session.specs.Reads.{asked_as, ListRead, ReferencesRead, HitsRead, MissesRead}
+use Rattle.session.specs.Answers.{fresh, Starting, Referring}
+use Rattle.session.specs.Reads.{ListRead, ReferencesRead, HitsRead, MissesRead}
 use Rattle.session.proofs.ReferAnswers.{policy_stays}
 use Rattle.exports.specs.Lent.{session_of}
-use Rattle.exports.specs.Told.{told_with}
 use Rattle.exports.specs.Trace.{page_number}
 use Rattle.exports.specs.Session.{
   start_lent,
-  told_depth,
-  told_asked,
   StartTold,
   ReferTold,
   ListShown,
@@ -46,46 +35,37 @@ record Left (a : Answer) (before : Lent) (places depths counts : List ℕ) : Typ
   counts_are : counts ≡ when_accepted a (replicate pages 0) before.counts
 
 module _ (wanted limit : ℕ) (before : Lent) {places depths counts : List ℕ} where
-  begun_by : (a : Answer) (b : Session) → started.Begun b ≡ started_as a (fresh wanted limit)
+  begun_by : (a : Answer) (b : Session) → Ok b ≡ giving a (fresh wanted limit)
       → Left a before places depths counts
-      → (a ≡ Accepted) × (lent_of b places depths counts ≡ when_accepted a (start_lent wanted limit) before)
-  begun_by Accepted b e left =
+      → (a ≡ accepted) × (lent_of b places depths counts ≡ when_accepted a (start_lent wanted limit) before)
+  begun_by (Ok u) b e left =
       let same : b ≡ fresh wanted limit = cc in
       (refl, rw (same, left.places_are, left.depths_are, left.counts_are))
-  begun_by (Refused x) b e left = absurd (let z : ◌≡◌ {A = ℕ} 0 1 = cc in let w : ⊥ = omega arith in w)
+  begun_by (Err x) b e left = absurd (let z : ◌≡◌ {A = ℕ} 0 1 = cc in let w : ⊥ = omega arith in w)
 
-  refused_by : (a : Answer) (x : Refusal) → started.Refused x ≡ started_as a (fresh wanted limit)
+  refused_by : (a : Answer) (x : Refusal) → Err x ≡ giving a (fresh wanted limit)
       → Left a before places depths counts
-      → (a ≡ Refused x) × (lent_of before.value places depths counts ≡ when_accepted a (start_lent wanted limit) before)
-  refused_by Accepted x e left = absurd (let z : ◌≡◌ {A = ℕ} 0 1 = cc in let w : ⊥ = omega arith in w)
-  refused_by (Refused y) x e left =
+      → (a ≡ Err x) × (lent_of before.value places depths counts ≡ when_accepted a (start_lent wanted limit) before)
+  refused_by (Ok u) x e left = absurd (let z : ◌≡◌ {A = ℕ} 0 1 = cc in let w : ⊥ = omega arith in w)
+  refused_by (Err y) x e left =
       let same : x ≡ y = cc in
       (rw same, rw (left.places_are, left.depths_are, left.counts_are))
 
-module _ {wanted limit : ℕ} {before : Lent} {places depths counts : List ℕ} {r : Started}
+module _ {wanted limit : ℕ} {before : Lent} {places depths counts : List ℕ} {r : Result Session Refusal}
     (s : Starting wanted limit before.places before.depths before.counts places depths counts r) where
   left : Left (start_answer wanted limit) before places depths counts
   left = record { places_are = s.places_are; depths_are = s.depths_are; counts_are = s.counts_are }
 
-  pub begun : (b : Session) → r ≡ started.Begun b → StartTold wanted limit before (lent_of b places depths counts) 0
+  pub begun : (b : Session) → r ≡ Ok b → StartTold wanted limit before (lent_of b places depths counts) 0
   begun b e =
       let all = begun_by wanted limit before (start_answer wanted limit) b (sym e ∙ s.answer) left in
       record { answered = rw all.0; memory = all.1 }
 
-  pub not_begun : (x : Refusal) → r ≡ started.Refused x
-      → StartTold wanted limit before (lent_of before.value places depths counts) x.number
+  pub not_begun : (x : Refusal) → r ≡ Err x
+      → StartTold wanted limit before (lent_of before.value places depths counts) (refusal_number x)
   not_begun x e =
       let all = refused_by wanted limit before (start_answer wanted limit) x (sym e ∙ s.answer) left in
       record { answered = rw all.0; memory = all.1 }
-
--- telling what crate session answered
-depth_told : (a : Answer) (d : ℕ) → told_depth (depth_as a d) ≡ told_with a d
-depth_told Accepted d = refl
-depth_told (Refused r) d = refl
-
-asked_told : (a : Answer) (n : ℕ) → told_asked (asked_as a n) ≡ told_with a n
-asked_told Accepted n = refl
-asked_told (Refused r) n = refl
 
 -- a reference
 module _ {before : Lent} {page : ℕ} {answer : Told} where
@@ -98,26 +78,21 @@ module _ {before : Lent} {page : ℕ} {answer : Told} where
         next = λ policy k calls g. clash (value_fits g.value) broken;
       }
 
-  answered_after : {after : Lent} {r : Depth} → fits before.value ≡ true → Referring before page after r
-      → answer ≡ told_depth r → ReferTold before page after answer
+  answered_after : {after : Lent} {r : Result ℕ Refusal} → fits before.value ≡ true → Referring before page after r
+      → answer ≡ told_of r → ReferTold before page after answer
   answered_after passed f e =
       record {
         answered =
-            e
-            ∙ rw (passed, f.depth_is)
-            (depth_told (reference_answer before.value.references page) (depth_in before page));
+            e ∙ rw (passed, f.depth_is);
         memory = rw passed f.memory_is;
         depth_is =
-            λ policy k calls g.
-            e
-            ∙ rw (f.answer policy k calls g)
-            (depth_told (reference_answer (length (accepted_of calls)) page) (depth_of policy k calls page));
+            λ policy k calls g. e ∙ rw (f.answer policy k calls g);
         next = f.next;
       }
 
   -- the policy and K were passed by value: a reference leaves them
-  pub referred : {s : Session} {places depths counts : List ℕ} {r : Depth} → fits before.value ≡ true
-      → Referring before page (lent_of s places depths counts) r → answer ≡ told_depth r
+  pub referred : {s : Session} {places depths counts : List ℕ} {r : Result ℕ Refusal} → fits before.value ≡ true
+      → Referring before page (lent_of s places depths counts) r → answer ≡ told_of r
       → ReferTold before page
       (lent_of (session_of before.value.policy before.value.k s.length s.references) places depths counts) answer
   referred {s} {places} {depths} {counts} passed f e =
@@ -164,26 +139,26 @@ module _ {s : Session} where
     hits_unsound broken e =
         record { answered = e ∙ rw broken; hits_are = λ policy k calls v d. clash (value_countable v d) broken }
 
-    pub hits_told : {r : Asked} → countable s depths ≡ true → HitsRead s depths c r → answer ≡ told_asked r
+    pub hits_told : {r : Result ℕ Refusal} → countable s depths ≡ true → HitsRead s depths c r → answer ≡ told_of r
         → HitsTold s depths c answer
     hits_told passed read e =
         record {
-          answered = e ∙ rw (passed, read.answered) (asked_told (capacity_answer s.k c) (hits_in depths c));
+          answered = e ∙ rw (passed, read.answered);
           hits_are =
               λ policy k calls v d.
-              e ∙ rw (read.hits_are policy k calls v d) (asked_told (capacity_answer k c) (hits_now policy c calls));
+              e ∙ rw (read.hits_are policy k calls v d);
         }
 
     pub misses_unsound : countable s depths ≡ false → answer ≡ told unsound 0 → MissesTold s depths c answer
     misses_unsound broken e =
         record { answered = e ∙ rw broken; misses_are = λ policy k calls v d. clash (value_countable v d) broken }
 
-    pub misses_told_law : {r : Asked} → countable s depths ≡ true → MissesRead s depths c r → answer ≡ told_asked r
+    pub misses_told_law : {r : Result ℕ Refusal} → countable s depths ≡ true → MissesRead s depths c r → answer ≡ told_of r
         → MissesTold s depths c answer
     misses_told_law passed read e =
         record {
-          answered = e ∙ rw (passed, read.answered) (asked_told (capacity_answer s.k c) (misses_in s depths c));
+          answered = e ∙ rw (passed, read.answered);
           misses_are =
               λ policy k calls v d.
-              e ∙ rw (read.misses_are policy k calls v d) (asked_told (capacity_answer k c) (misses_now policy c calls));
+              e ∙ rw (read.misses_are policy k calls v d);
         }

@@ -1,8 +1,9 @@
 -- Two answers that both meet an exported function's promise are equal, and so is the memory they leave, whatever was lent.
-use Rattle.std.specs.Prelude.{ℕ, ◌≡◌, List}
+use Rattle.std.specs.Prelude.{ℕ, ◌≡◌, List, Result}
 use Rattle.std.proofs.Common.{sym, ◌∙◌}
 use Rattle.rules.specs.Told.{Told}
-use Rattle.file_theory.specs.Decoding.{Outcome, Trace}
+use Rattle.rules.specs.declared.refusal.Refusal.{Refusal}
+use Rattle.file_theory.specs.Decoding.{Trace}
 use Rattle.session.specs.declared.Session.{Session}
 use Rattle.session.specs.Lent.{Lent}
 use Rattle.exports.specs.Trace.{CountTold, ListTold}
@@ -18,7 +19,7 @@ pub list_told_once : {trace before x y : List ℕ} {policy k t : ℕ} {a b : Tol
     → ListTold trace policy k t before y b → (a ≡ b) × (x ≡ y)
 list_told_once p q = (p.answered ∙ sym q.answered, p.places ∙ sym q.places)
 
-pub file_told_once : {o : Outcome Trace} {c r n c₁ r₁ n₁ c₂ r₂ n₂ : List ℕ} {a b : Told} → FileTold o c r n a c₁ r₁ n₁
+pub file_told_once : {o : Result Trace Refusal} {c r n c₁ r₁ n₁ c₂ r₂ n₂ : List ℕ} {a b : Told} → FileTold o c r n a c₁ r₁ n₁
     → FileTold o c r n b c₂ r₂ n₂
     → (a ≡ b) × (c₁ ≡ c₂) × (r₁ ≡ r₂) × (n₁ ≡ n₂)
 file_told_once p q = (

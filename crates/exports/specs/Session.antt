@@ -3,14 +3,9 @@
 use Rattle.std.specs.Prelude.{ℕ, suc, cond, ◌≡◌, List, ◌∷◌, map, length, replicate}
 use Rattle.rules.specs.Limits.{capacities, pages}
 use Rattle.rules.specs.Refusals.{when_accepted, number_of}
-use Rattle.rules.specs.Told.{Told, told, told_of, tested_told}
-use Rattle.rules.specs.declared.Answer.TheVariants.{Refused}
+use Rattle.rules.specs.Told.{Told, told, tested_told}
 use Rattle.kept.specs.Shown.{places_of, shown_places}
 use Rattle.session.specs.declared.Session.{Session}
-use Rattle.session.specs.declared.Depth.{Depth}
-use Rattle.session.specs.declared.Depth.TheVariants as depth
-use Rattle.session.specs.declared.Asked.{Asked}
-use Rattle.session.specs.declared.Asked.TheVariants as asked
 use Rattle.session.specs.History.{start_answer, reference_answer, capacity_answer}
 use Rattle.session.specs.History.{accepted_of, depth_of, list_now, hits_now, misses_now}
 use Rattle.session.specs.Lent.{Lent, lent_of}
@@ -20,15 +15,6 @@ use Rattle.session.specs.Tests.{fits, countable}
 use Rattle.session.specs.Answers.{fresh}
 use Rattle.exports.specs.Told.{told_with}
 use Rattle.exports.specs.Trace.{page_number}
-
--- A1: a depth, or a number asked for, beside 0; or the refusal's number and place
-abbrev pub told_depth : Depth → Told
-told_depth (depth.Accepted d) = told 0 d
-told_depth (depth.Refused r) = told_of (Refused r)
-
-abbrev pub told_asked : Asked → Told
-told_asked (asked.Number n) = told 0 n
-told_asked (asked.Refused r) = told_of (Refused r)
 
 -- what a start leaves
 abbrev pub start_lent : ℕ → ℕ → Lent

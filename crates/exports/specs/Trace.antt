@@ -1,14 +1,14 @@
 -- What the exported calls on whole traces promise: the promises of crate count, with the answers told in numbers.
 use Rattle.std.specs.Prelude.{ℕ, ◌≡◌, List, map, length}
 use Rattle.rules.specs.Refusals.{when_accepted}
-use Rattle.rules.specs.Told.{Told, told_of}
+use Rattle.rules.specs.Told.{Told}
 use Rattle.rules.specs.declared.Page.{Page}
 use Rattle.kept.specs.Shown.{places_of}
 use Rattle.count.specs.Count.{count_answer, count_table, list_answer, list_shown}
 use Rattle.exports.specs.Told.{told_with}
 
 pub record CountTold (trace : List ℕ) (policy k : ℕ) (before after : List ℕ) (answer : Told) : Type 0 where
-  pub answered : answer ≡ told_of (count_answer policy k (length before) trace)
+  pub answered : answer ≡ told_with (count_answer policy k (length before) trace) 0
   pub table : after ≡ count_table policy k trace before
 
 -- N1: the number of a page

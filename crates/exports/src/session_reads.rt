@@ -1,30 +1,12 @@
 // What a session is asked between its references, for callers in C and Rust: reading it changes nothing.
-ghost use Rattle.std.specs.Prelude.{◌≡◌};
 ghost use Rattle.rules.specs.Told.{told};
 ghost use Rattle.exports.specs.Lent.{session_of};
-ghost use Rattle.exports.specs.Session.{told_asked, ListShown, ReferencesTold, HitsTold, MissesTold};
+ghost use Rattle.exports.specs.Session.{ListShown, ReferencesTold, HitsTold, MissesTold};
 
-use crate::unsound;
 use crate::whole_trace::page_numbers;
 use kept::DEPTHS;
-use rules::CAPACITIES;
-use session::{Asked, Session};
-
-// A number that was asked for: 0 and the number, or the refusal's number and its place.
-fn tell_asked(asked: Asked, value: &mut usize) -> u32
-    ensures { told result value.new ≡ told_asked asked }
-{
-    match asked {
-        Asked::Number(n) => {
-            *value = n;
-            0
-        }
-        Asked::Refused(r) => {
-            *value = r.place;
-            r.number as u32
-        }
-    }
-}
+use rules::{CAPACITIES, Refusal, tell};
+use session::Session;
 
 // The list as it stands: its pages' numbers in the order of places, 0 past its length, which is the value.
 #[unsafe(no_mangle)]
@@ -47,13 +29,11 @@ pub extern "C" fn musselrung_session_list_parts(
         references,
     };
     if !session::fits(s) {
-        return unsound(value);
+        return tell(Err(Refusal::Unsound), value);
     }
     let listing = session::list(s, places);
-    let pages = listing.places;
-    *shown = page_numbers(pages);
-    *value = listing.length;
-    0
+    *shown = page_numbers(listing.places);
+    tell(Ok(listing.length), value)
 }
 
 // How many references were accepted.
@@ -74,10 +54,9 @@ pub extern "C" fn musselrung_session_references_parts(
         references,
     };
     if !session::fits(s) {
-        return unsound(value);
+        return tell(Err(Refusal::Unsound), value);
     }
-    *value = session::references(s);
-    0
+    tell(Ok(session::references(s)), value)
 }
 
 // 0 and the hits at a capacity, or a refusal.
@@ -101,10 +80,9 @@ pub extern "C" fn musselrung_session_hits_parts(
         references,
     };
     if !session::countable(s, depths) {
-        return unsound(value);
+        return tell(Err(Refusal::Unsound), value);
     }
-    let asked = session::hits(s, depths, capacity);
-    tell_asked(asked, value)
+    tell(session::hits(s, depths, capacity), value)
 }
 
 // 0 and the misses at a capacity, or a refusal.
@@ -128,8 +106,7 @@ pub extern "C" fn musselrung_session_misses_parts(
         references,
     };
     if !session::countable(s, depths) {
-        return unsound(value);
+        return tell(Err(Refusal::Unsound), value);
     }
-    let asked = session::misses(s, depths, capacity);
-    tell_asked(asked, value)
+    tell(session::misses(s, depths, capacity), value)
 }

@@ -11,6 +11,7 @@ use session::Session;
 
 // 1 if the session is sound, else 0: for a caller who took it from a file or another program. A session that a start and
 // calls gave always is.
+#[tactic(auto, unfolding(rules::specs::Lists::one))]
 #[unsafe(no_mangle)]
 pub extern "C" fn musselrung_session_sound_parts(
     policy: u8,
@@ -30,8 +31,5 @@ pub extern "C" fn musselrung_session_sound_parts(
         length,
         references,
     };
-    if session::sound(s, places, depths, counts) {
-        return 1;
-    }
-    0
+    u32::from(session::sound(s, places, depths, counts))
 }

@@ -1,30 +1,12 @@
 // Sessions for callers in C and Rust: a session stands in memory that the caller lends in its parts, and only a start and a
 // reference write it.
-ghost use Rattle.std.specs.Prelude.{◌≡◌};
 ghost use Rattle.rules.specs.Told.{told};
 ghost use Rattle.exports.specs.Lent.{session_in};
-ghost use Rattle.exports.specs.Session.{told_depth, StartTold, ReferTold};
+ghost use Rattle.exports.specs.Session.{StartTold, ReferTold};
 
-use crate::unsound;
 use kept::DEPTHS;
-use rules::{CAPACITIES, PAGES, Page};
-use session::{Depth, Session, Started};
-
-// A depth in numbers: 0 and the depth, or the refusal's number and its place.
-fn tell_depth(depth: Depth, value: &mut usize) -> u32
-    ensures { told result value.new ≡ told_depth depth }
-{
-    match depth {
-        Depth::Accepted(d) => {
-            *value = d;
-            0
-        }
-        Depth::Refused(r) => {
-            *value = r.place;
-            r.number as u32
-        }
-    }
-}
+use rules::{CAPACITIES, PAGES, Page, Refusal, tell};
+use session::Session;
 
 // Starts a session under a policy with a list of so many places, whatever stood in the memory. A refusal leaves the memory
 // as it was; its place is always 0, so there is no value to tell.
@@ -44,16 +26,15 @@ pub extern "C" fn musselrung_session_start_parts(
         (session_in policy.old k.old length.old references.old places.old depths.old counts.old)
         (session_in policy.new k.new length.new references.new places.new depths.new counts.new) result }
 {
-    let started = session::start(rules::byte_of(wanted), limit, places, depths, counts);
-    match started {
-        Started::Begun(s) => {
-            *policy = s.policy;
-            *k = s.k;
-            *length = s.length;
-            *references = s.references;
+    match session::start(rules::byte_of(wanted), limit, places, depths, counts) {
+        Ok(begun) => {
+            *policy = begun.policy;
+            *k = begun.k;
+            *length = begun.length;
+            *references = begun.references;
             0
         }
-        Started::Refused(r) => r.number as u32,
+        Err(refusal) => u32::from(refusal.number()),
     }
 }
 
@@ -75,19 +56,17 @@ pub extern "C" fn musselrung_session_refer_parts(
         (session_in policy k length.old references.old places.old depths.old counts.old) page
         (session_in policy k length.new references.new places.new depths.new counts.new) (told result value.new) }
 {
-    let s = Session {
+    let mut s = Session {
         policy,
         k,
         length: *length,
         references: *references,
     };
     if !session::fits(s) {
-        return unsound(value);
+        return tell(Err(Refusal::Unsound), value);
     }
-    let referenced = session::refer(s, Page(rules::short_of(page)), places, depths, counts);
-    let next = referenced.session;
-    *length = next.length;
-    *references = next.references;
-    let depth = referenced.depth;
-    tell_depth(depth, value)
+    let depth = session::refer(&mut s, Page(rules::short_of(page)), places, depths, counts);
+    *length = s.length;
+    *references = s.references;
+    tell(depth, value)
 }

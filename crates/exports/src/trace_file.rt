@@ -3,9 +3,7 @@ ghost use Rattle.rules.specs.Told.{told};
 ghost use Rattle.file_theory.specs.Decoding.{trace_in};
 ghost use Rattle.exports.specs.File.{FileTold};
 
-use crate::tell;
-use file_theory::Reading;
-use rules::{Answer, CAPACITIES, REFERENCES};
+use rules::{CAPACITIES, REFERENCES, tell};
 
 // Reads a trace file into two lent tables, with the counts of their values in a third. The value is 0, or the refusal's
 // place.
@@ -21,13 +19,12 @@ pub extern "C" fn musselrung_read(
         capacities.old references.old counts.old (told result value.new)
         capacities.new references.new counts.new }
 {
-    let reading = file::read(file, capacities, references);
-    match reading {
-        Reading::Accepted(c) => {
-            counts[0] = c.capacities;
-            counts[1] = c.references;
-            tell(Answer::Accepted, value)
+    match file::read(file, capacities, references) {
+        Ok(read) => {
+            counts[0] = read.capacities;
+            counts[1] = read.references;
+            tell(Ok(0), value)
         }
-        Reading::Refused(r) => tell(Answer::Refused(r), value),
+        Err(refusal) => tell(Err(refusal), value),
     }
 }

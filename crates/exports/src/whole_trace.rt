@@ -1,10 +1,17 @@
 // Whole traces, and the list of a trace, for callers in C and Rust.
 ghost use Rattle.std.specs.Prelude.{map, ◌≡◌};
 ghost use Rattle.rules.specs.Told.{told};
+ghost use Rattle.exports.specs.Told.{told_with};
 ghost use Rattle.exports.specs.Trace.{CountTold, ListTold, page_number};
 
-use crate::tell;
-use rules::{Answer, CAPACITIES, Page};
+use rules::{CAPACITIES, Page, Refusal, tell};
+
+// An answer that gives back nothing but lent memory: the value beside a 0 is 0.
+fn tell_answer(answer: Result<(), Refusal>, value: &mut usize) -> u32
+    ensures { told result value.new ≡ told_with answer 0 }
+{
+    tell(answer.map(|()| 0), value)
+}
 
 // Counts the hits of a trace at each capacity from 1 to `k` into the first `k` entries of `hits`. The value is 0, or the
 // refusal's place.
@@ -20,7 +27,7 @@ pub extern "C" fn musselrung_count(
         hits.old hits.new (told result value.new) }
 {
     let answer = count::count(trace, rules::byte_of(policy), k, hits);
-    tell(answer, value)
+    tell_answer(answer, value)
 }
 
 // The page numbers of places.
@@ -28,11 +35,8 @@ pub(crate) fn page_numbers(shown: [Page; CAPACITIES]) -> [u16; CAPACITIES]
     ensures { result ≡ map page_number shown }
 {
     let mut numbers = [0u16; CAPACITIES];
-    let mut i = 0;
-    while i < CAPACITIES {
-        let page = shown[i];
-        numbers[i] = page.0;
-        i += 1;
+    for i in 0..CAPACITIES {
+        numbers[i] = shown[i].0;
     }
     numbers
 }
@@ -51,15 +55,11 @@ pub extern "C" fn musselrung_list(
     ensures { ListTold trace.now policy k t
         places.old places.new (told result value.new) }
 {
-    let listed = count::list(trace, rules::byte_of(policy), k, t);
-    let answer = listed.answer;
-    let shown = listed.places;
-    match answer {
-        Answer::Refused(r) => tell(Answer::Refused(r), value),
-        Answer::Accepted => {
-            *places = page_numbers(shown);
-            *value = listed.length;
-            0
+    match count::list(trace, rules::byte_of(policy), k, t) {
+        Ok(listing) => {
+            *places = page_numbers(listing.places);
+            tell(Ok(listing.length), value)
         }
+        Err(refusal) => tell(Err(refusal), value),
     }
 }

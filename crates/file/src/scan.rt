@@ -1,108 +1,93 @@
-// Scans over the section that some bytes start with, one number a turn; each asks only that the section is whole.
-ghost use Rattle.std.specs.Prelude.{◌≡◌, ◌+◌, ◌≤◌, ◌<◌, ltb, length};
-ghost use Rattle.rules.specs.Refusals.{refuse_if, first_bad_page as «first_bad_page_of», bytes_left as «bytes_left_of»};
-ghost use Rattle.rules.specs.declared.Answer.TheVariants.{Accepted};
-ghost use Rattle.file_theory.specs.Format.{number_at as «number_at_of», section_size, section_values};
-ghost use Rattle.file_theory.specs.Decoding.{section as section_of, rising as rising_of, first_of};
+// The section that some bytes start with, and scans over the bytes of its values, two a turn.
+ghost use Rattle.std.specs.Prelude.{◌≡◌, ◌<◌, ◌≤◌, length, ltb, MatchResult};
+ghost use Rattle.rules.specs.Refusals.{accepted, refuse_if, first_bad_page as «first_bad_page_of»};
+ghost use Rattle.rules.specs.declared.refusal.Refusal.TheVariants.{BytesLeft};
+ghost use Rattle.file_theory.specs.Format.{number_at, all_numbers};
+ghost use Rattle.file_theory.specs.Decoding.{section as section_of, rising as rising_of};
 ghost use Rattle.file_theory.specs.Promises.{overwritten};
+ghost use Rattle.file_theory.specs.Sections.{SectionFound};
 
-use file_theory::Section;
-use rules::{Answer, BAD_PAGE, BYTES_LEFT, CAPACITIES, PAGES};
+use rules::{CAPACITIES, PAGES, Refusal};
 
-// The number that starts at byte i, low byte first.
-fn number_at(bytes: &[u8], i: usize) -> u16
-    requires { i + 1 < length bytes.now }
-    ensures { result ≡ «number_at_of» bytes.now i }
+// The number that some bytes start with, low byte first.
+fn number(bytes: &[u8]) -> u16
+    requires { 1 < length bytes.now }
+    ensures { result ≡ number_at bytes.now 0 }
 {
-    let low = bytes[i] as u16;
-    let high = bytes[i + 1] as u16;
-    low + 256 * high
+    u16::from_le_bytes([bytes[0], bytes[1]])
 }
 
-// The section that the bytes start with: its count within the limit and its values there.
-pub(crate) fn section(bytes: &[u8], limit: usize) -> Section
-    ensures { result ≡ section_of limit bytes.now }
+// The section that the bytes start with: the bytes of its values, and the bytes behind it. Who asks says what a count
+// over the limit is refused as.
+#[tactic(auto, using(file_theory::specs::Sections::found_whole))]
+pub(crate) fn section(bytes: &[u8], limit: usize, over: Refusal) -> Result<(&[u8], &[u8]), Refusal>
+    ensures { MatchResult result
+        (λ found. SectionFound limit bytes.now found.0.now found.1.now)
+        (λ r. section_of limit over bytes.now ≡ Err r) }
 {
     if bytes.len() < 2 {
-        return Section::Cut;
+        return Err(Refusal::CutFile);
     }
-    let n = number_at(bytes, 0) as usize;
+    let n = usize::from(number(bytes));
     if limit < n {
-        return Section::Over;
+        return Err(over);
     }
     if bytes.len() < 2 + 2 * n {
-        return Section::Cut;
+        return Err(Refusal::CutFile);
     }
-    Section::Values(n)
+    Ok(bytes[2..].split_at(2 * n))
 }
 
-// Is each of the section's n values a capacity, and above the one before it? A value above the one before
-// is above 0, so only the upper limit is tested by itself.
-pub(crate) fn rising(bytes: &[u8], n: usize) -> bool
-    requires { section_size n ≤ length bytes.now }
-    ensures { result ≡ rising_of 0 (section_values n bytes.now) }
+// Is each of the values a capacity, and above the one before it? A value above the one before is above 0, so only
+// the upper limit is tested by itself.
+#[tactic(auto, using(file_theory::specs::Words::turns), unfolding(file_theory::specs::Decoding::rising))]
+pub(crate) fn rising(values: &[u8]) -> bool
+    ensures { result ≡ rising_of 0 (all_numbers values.now) }
 {
-    let mut before: usize = 0;
-    let mut i = 0;
-    while i < n {
-        let c = number_at(bytes, 2 + 2 * i) as usize;
-        if c <= before {
-            return false;
-        }
-        if CAPACITIES < c {
+    let mut before = 0;
+    for pair in values.chunks_exact(2) {
+        let c = usize::from(number(pair));
+        if c <= before || CAPACITIES < c {
             return false;
         }
         before = c;
-        i += 1;
     }
     true
 }
 
-// The first of the section's n values that is no page number, as a refusal with its index.
-pub(crate) fn first_bad_page(bytes: &[u8], n: usize) -> Answer
-    requires { section_size n ≤ length bytes.now }
-    ensures { result ≡ «first_bad_page_of» 0 (section_values n bytes.now) Accepted }
+// The first of the values that is no page number, as a refusal with its index.
+#[tactic(auto, using(file_theory::specs::Words::turns), unfolding(rules::specs::Refusals::first_bad_page))]
+pub(crate) fn first_bad_page(values: &[u8]) -> Result<(), Refusal>
+    ensures { result ≡ «first_bad_page_of» 0 (all_numbers values.now) accepted }
 {
-    let mut i = 0;
-    while i < n {
-        if PAGES <= number_at(bytes, 2 + 2 * i) {
-            return rules::refuse(BAD_PAGE, i);
+    for (i, pair) in values.chunks_exact(2).enumerate() {
+        if PAGES <= number(pair) {
+            return Err(Refusal::BadPage(i));
         }
-        i += 1;
     }
-    Answer::Accepted
+    Ok(())
 }
 
-// Puts the section's n values at the front of a table.
-pub(crate) fn copy_values(bytes: &[u8], n: usize, table: &mut [u16])
-    requires { (section_size n ≤ length bytes.now) × (n ≤ length table.old) }
-    ensures { table.new ≡ overwritten (section_values n bytes.now) table.old }
+// Do bytes remain behind the last section?
+pub(crate) fn bytes_left(behind: &[u8]) -> Result<(), Refusal>
+    ensures { result ≡ refuse_if (ltb 0 (length behind.now)) BytesLeft accepted }
 {
-    let mut i = 0;
-    while i < n {
-        table[i] = number_at(bytes, 2 + 2 * i);
-        i += 1;
-    }
-}
-
-// Do bytes remain behind the section's n values?
-pub(crate) fn bytes_left(part: &[u8], n: usize) -> Answer
-    requires { section_size n ≤ length part.now }
-    ensures { result ≡ refuse_if (ltb (section_size n) (length part.now)) «bytes_left_of» Accepted }
-{
-    if 2 + 2 * n < part.len() {
-        rules::refuse(BYTES_LEFT, 0)
+    if behind.is_empty() {
+        Ok(())
     } else {
-        Answer::Accepted
+        Err(Refusal::BytesLeft)
     }
 }
 
-// Of two refusals that apply, the first is given (rule A2).
-pub(crate) fn first_refusal(first: Answer, next: Answer) -> Answer
-    ensures { result ≡ first_of first next }
+// Puts the values at the front of a table, and says how many they are.
+#[tactic(auto, using(file_theory::specs::Words::turns, file_theory::specs::Answers::put_in_front))]
+pub(crate) fn copy_values(values: &[u8], table: &mut [u16]) -> usize
+    requires { length (all_numbers values.now) ≤ length table.old }
+    ensures count { result ≡ length (all_numbers values.now) }
+    ensures copied { table.new ≡ overwritten (all_numbers values.now) table.old }
 {
-    match first {
-        Answer::Refused(r) => Answer::Refused(r),
-        Answer::Accepted => next,
+    for (i, pair) in values.chunks_exact(2).enumerate() {
+        table[i] = number(pair);
     }
+    values.len() / 2
 }

@@ -11,6 +11,12 @@ unfoldable pub numbers : ℕ → List ℕ → List ℕ
 numbers zero bytes = []
 numbers (suc n) bytes = number_at bytes 0 ∷ numbers n (drop 2 bytes)
 
+-- all the numbers of some bytes; a last byte by itself is none
+unfoldable pub all_numbers : List ℕ → List ℕ
+all_numbers [] = []
+all_numbers (a ∷ []) = []
+all_numbers (a ∷ b ∷ bytes) = (a + 256 * b) ∷ all_numbers bytes
+
 -- F2: a section is a count and so many values; it is this many bytes
 abbrev pub section_size : ℕ → ℕ
 section_size n = 2 + 2 * n

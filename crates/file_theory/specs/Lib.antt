@@ -9,6 +9,7 @@ pub mod Words
 pub mod Sections
 pub mod Scans
 pub mod Answers
+pub mod Ways
 pub mod RoundTrip
 pub mod Longest
 pub mod Callers

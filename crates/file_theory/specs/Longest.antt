@@ -1,21 +1,20 @@
 -- The longest file (docs/RULES.md, F5): no accepted file is longer, and of a longer input its first bytes, one more than the
 -- longest file has, say all.
-use Rattle.std.specs.Prelude.{ℕ, suc, ◌+◌, ◌≤◌, ◌<◌, ◌≡◌, cond, List, ltb, length, take}
+use Rattle.std.specs.Prelude.{ℕ, suc, ◌+◌, ◌≤◌, ◌<◌, ◌≡◌, cond, List, ltb, length, take, Ok, Err}
 use Rattle.std.proofs.Common.{sym, ap, ◌∙◌, arith, lt-ltb, le-ltb, ltb-true, ltb-false, length-append, length-drop}
 use Rattle.std.proofs.Common.{length-take-le, get_or-take, take_all}
 use Rattle.rules.specs.Cases.{by_cases}
 use Rattle.rules.specs.Limits.{capacities, references}
-use Rattle.rules.specs.Refusals.{too_many_references, bytes_left}
-use Rattle.file_theory.specs.declared.Section.TheVariants.{Over, Values}
+use Rattle.rules.specs.declared.refusal.Refusal.{Refusal}
+use Rattle.rules.specs.declared.refusal.Refusal.TheVariants.{TooManyReferences, BadCapacities, BytesLeft}
 use Rattle.file_theory.specs.Format.{number_at, numbers, section_size, section_values, behind_section, longest, Came}
 use Rattle.file_theory.specs.Encoding.{bytes_of}
-use Rattle.file_theory.specs.Decoding.{says, refuses, unplaced, section}
-use Rattle.file_theory.specs.Decoding.{pages_answer, pages_of, references_in, Trace, trace_behind, trace_in}
+use Rattle.file_theory.specs.Decoding.{section, pages_answer, pages_of, references_in, Trace, trace_behind, trace_in}
 use Rattle.file_theory.specs.Words.{Bytes, number_at_drop, numbers_take, length_bytes_of}
 use Rattle.file_theory.specs.RoundTrip.{file_says}
 
 -- F5: an accepted file is no longer
-pub accepted_short : (file : List ℕ) (t : Trace) → Bytes file → trace_in file ≡ says t → length file ≤ longest
+pub accepted_short : (file : List ℕ) (t : Trace) → Bytes file → trace_in file ≡ Ok t → length file ≤ longest
 unfolding bytes_of
 accepted_short file t all e =
     let told = file_says file t e in
@@ -31,12 +30,12 @@ accepted_short file t all e =
     )
 
 -- bytes enough for a full section hold the section that their count says
-long_section : (limit : ℕ) (bytes : List ℕ) → section_size limit ≤ length bytes
-    → section limit bytes ≡ cond (ltb limit (number_at bytes 0)) Over (Values (number_at bytes 0))
-long_section limit bytes h =
+long_section : (limit : ℕ) (over : Refusal) (bytes : List ℕ) → section_size limit ≤ length bytes
+    → section limit over bytes ≡ cond (ltb limit (number_at bytes 0)) (Err over) (Ok (number_at bytes 0))
+long_section limit over bytes h =
     rw (le-ltb (length bytes) 2 (omega arith))
     (by_cases (ltb limit (number_at bytes 0))
-    (λ over. rw over)
+    (λ above. rw above)
     (λ within.
     let few : number_at bytes 0 ≤ limit = ltb-false limit (number_at bytes 0) within in
     rw (within, le-ltb (length bytes) (section_size (number_at bytes 0)) (omega arith))))
@@ -44,10 +43,10 @@ long_section limit bytes h =
 -- a part longer than a full reference section is refused by its count alone
 long_part : (part : List ℕ) → section_size references < length part
     → references_in part
-    ≡ cond (ltb references (number_at part 0)) (refuses (unplaced too_many_references)) (refuses (unplaced bytes_left))
+    ≡ cond (ltb references (number_at part 0)) (Err TooManyReferences) (Err BytesLeft)
 unfolding references_in pages_of pages_answer
 long_part part h =
-    rw (long_section references part (omega arith))
+    rw (long_section references TooManyReferences part (omega arith))
     (by_cases (ltb references (number_at part 0))
     (λ over. rw over)
     (λ within.
@@ -89,8 +88,8 @@ module _ (file : List ℕ) (long : longest < length file) where
   unfolding trace_in
   first_bytes =
       rw (
-        long_section capacities first (omega (arith, first_length)),
-        long_section capacities file (omega arith),
+        long_section capacities BadCapacities first (omega (arith, first_length)),
+        long_section capacities BadCapacities file (omega arith),
         same_number 0 (omega arith),
       )
       (by_cases (ltb capacities (number_at file 0))

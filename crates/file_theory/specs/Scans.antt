@@ -1,24 +1,21 @@
 -- Laws for a loop over a section's values, one number a turn: what the rest of a scan says after a value, and what a table
 -- holds after a store.
-use Rattle.std.specs.Prelude.{ℕ, suc, ◌+◌, ◌*◌, ◌≤◌, ◌<◌, ◌≡◌, refl, false, List, [], ◌∷◌, ◌++◌, length, get_or, set, drop}
-use Rattle.std.proofs.Common.{sym, ◌∙◌, add-one, arith, drop-cons}
+use Rattle.std.specs.Prelude.{ℕ, suc, ◌+◌, ◌*◌, ◌≤◌, ◌<◌, ◌≡◌, refl, false, List, [], ◌∷◌, ◌++◌, length, get_or, set, drop, Err}
+use Rattle.std.proofs.Common.{sym, ◌∙◌, add-one, arith, drop-cons, lt-ltb, le-ltb, le-leb}
 use Rattle.std.proofs.Math.Bool.{and-false}
-use borrow.Author.Tests.{lt-ltb, le-ltb, le-leb, lt-leb}
+use Rattle.std.proofs.lemmas.Bool.{lt-leb}
 use Rattle.std.proofs.Math.Seq.{drop-length, append_snoc}
 use Rattle.std.proofs.lemmas.List.{set_at}
 use Rattle.rules.specs.Limits.{capacities, pages}
-use Rattle.rules.specs.Refusals.{first_bad_page, refusal, bad_page}
+use Rattle.rules.specs.Refusals.{accepted, first_bad_page}
 use Rattle.rules.specs.FirstBad.{first_bad, first_bad_found, first_bad_none, first_bad_at, first_bad_next, first_bad_end}
-use Rattle.rules.specs.declared.Answer.TheVariants.{Accepted}
+use Rattle.rules.specs.declared.refusal.Refusal.TheVariants.{BadPage}
 use Rattle.file_theory.specs.Format.{number_at, numbers, section_values}
 use Rattle.file_theory.specs.Decoding.{rising}
 use Rattle.file_theory.specs.Promises.{overwritten}
-use Rattle.file_theory.specs.Words.{length_numbers, get_d_numbers, numbers_more, number_at_drop}
+use Rattle.file_theory.specs.Words.{length_numbers, value_at, numbers_more, number_at_drop}
 
--- value i is the number that the loop reads there, and the values from i on start with it
-pub value_at : (n : ℕ) (bytes : List ℕ) (i : ℕ) → i < n → get_or (section_values n bytes) i 0 ≡ number_at bytes (2 + 2 * i)
-value_at n bytes i h = get_d_numbers n (drop 2 bytes) i h ∙ number_at_drop 2 bytes (2 * i)
-
+-- the values from i on start with the number that the loop reads there
 next_value : (n : ℕ) (bytes : List ℕ) (i : ℕ) → i < n
     → drop i (section_values n bytes) ≡ number_at bytes (2 + 2 * i) ∷ drop (i + 1) (section_values n bytes)
 next_value n bytes i h =
@@ -59,16 +56,16 @@ module _ (n : ℕ) (bytes : List ℕ) (i p : ℕ) (more : i < n) (here : p ≡ n
 
 -- the refusal of the first bad page, where one was found, and none where the scan came to the end
 pub found_bad : (n : ℕ) (bytes : List ℕ) (i : ℕ) → i < n → first_bad 0 (section_values n bytes) ≡ i
-    → first_bad_page 0 (section_values n bytes) Accepted ≡ refusal bad_page i
+    → first_bad_page 0 (section_values n bytes) accepted ≡ Err (BadPage i)
 found_bad n bytes i h e =
-    first_bad_found 0 (section_values n bytes) Accepted (omega (arith, e, length_numbers n (drop 2 bytes))) ∙ rw e
+    first_bad_found 0 (section_values n bytes) accepted (omega (arith, e, length_numbers n (drop 2 bytes))) ∙ rw e
 
 pub none_bad : (n : ℕ) (bytes : List ℕ) (i : ℕ) → n ≤ i
     → first_bad 0 (section_values n bytes) ≡ first_bad i (drop i (section_values n bytes))
-    → first_bad_page 0 (section_values n bytes) Accepted ≡ Accepted
+    → first_bad_page 0 (section_values n bytes) accepted ≡ accepted
 none_bad n bytes i h e =
     let ended = first_bad_end (section_values n bytes) i (omega (arith, length_numbers n (drop 2 bytes))) in
-    first_bad_none 0 (section_values n bytes) Accepted (omega (arith, e, ended, length_numbers n (drop 2 bytes)))
+    first_bad_none 0 (section_values n bytes) accepted (omega (arith, e, ended, length_numbers n (drop 2 bytes)))
 
 -- a table that took no value, the next after i values, and all n
 pub copied_none : (bytes table₀ : List ℕ) → table₀ ≡ numbers 0 (drop 2 bytes) ++ drop 0 table₀

@@ -3,7 +3,8 @@
 use Rattle.std.specs.Prelude.{ℕ, zero, suc, ◌+◌, ◌-◌, ◌*◌, ◌%◌, ◌/◌, ◌≤◌, ◌<◌, ◌≡◌, refl, List, [], ◌∷◌, ◌++◌}
 use Rattle.std.specs.Prelude.{length, get_or, take, drop}
 use Rattle.std.proofs.Common.{ap, ap₂, ◌∙◌, not-suc-le-zero, le_of_suc-le-suc, arith, length-drop, get_or-drop, take_all}
-use Rattle.file_theory.specs.Format.{number_at, numbers}
+use Rattle.std.proofs.lemmas.Bool.Decides.{nat_tests}
+use Rattle.file_theory.specs.Format.{number_at, numbers, all_numbers, section_values}
 use Rattle.file_theory.specs.Encoding.{bytes_of}
 
 -- every element is a byte; past the end `get_or` gives 0, which is one
@@ -31,6 +32,10 @@ get_d_numbers (suc n) bytes (suc i) h =
     let e : 2 + 2 * i ≡ 2 * suc i = omega arith in
     get_d_numbers n (drop 2 bytes) i (le_of_suc-le-suc h) ∙ number_at_drop 2 bytes (2 * i) ∙ ap (number_at bytes) e
 
+-- value i of the section that some bytes start with
+pub value_at : (n : ℕ) (bytes : List ℕ) (i : ℕ) → i < n → get_or (section_values n bytes) i 0 ≡ number_at bytes (2 + 2 * i)
+value_at n bytes i h = get_d_numbers n (drop 2 bytes) i h ∙ number_at_drop 2 bytes (2 * i)
+
 -- one number more
 pub numbers_more : (n : ℕ) (bytes : List ℕ) → numbers (suc n) bytes ≡ numbers n bytes ++ (number_at bytes (2 * n) ∷ [])
 unfolding numbers
@@ -40,6 +45,40 @@ numbers_more (suc n) bytes =
     ap {B = List ℕ} (λ t. number_at bytes 0 ∷ t) (
     numbers_more n (drop 2 bytes)
     ∙ ap {B = List ℕ} (λ v. numbers n (drop 2 bytes) ++ (v ∷ [])) (number_at_drop 2 bytes (2 * n) ∙ ap (number_at bytes) e))
+
+-- all numbers of some bytes: a turn takes two bytes, which are a number, and fewer than two are none
+pub pair_number : (pair rest : List ℕ) → length pair ≡ 2 → all_numbers (pair ++ rest) ≡ number_at pair 0 ∷ all_numbers rest
+unfolding all_numbers
+pair_number [] rest h = absurd (omega arith)
+pair_number (a ∷ []) rest h = absurd (omega arith)
+pair_number (a ∷ b ∷ []) rest h = refl
+pair_number (a ∷ b ∷ c ∷ more) rest h = absurd (omega arith)
+
+pub no_number : (bytes : List ℕ) → length bytes < 2 → all_numbers bytes ≡ []
+unfolding all_numbers
+no_number [] h = refl
+no_number (a ∷ []) h = refl
+no_number (a ∷ b ∷ bytes) h = absurd (omega arith)
+
+-- half as many numbers as bytes
+pub count_numbers : (bytes : List ℕ) → length bytes / 2 ≡ length (all_numbers bytes)
+unfolding all_numbers
+count_numbers [] = refl
+count_numbers (a ∷ []) = refl
+count_numbers (a ∷ b ∷ bytes) = let ih = count_numbers bytes in omega arith
+
+-- what a loop over the numbers of some bytes goes by, two bytes a turn
+pub ruleset turns = (pair_number, no_number, count_numbers, nat_tests)
+
+-- all the numbers of the first n numbers' bytes are these
+pub all_numbers_take : (n : ℕ) (bytes : List ℕ) → 2 * n ≤ length bytes → all_numbers (take (2 * n) bytes) ≡ numbers n bytes
+unfolding numbers all_numbers
+all_numbers_take zero bytes h = refl
+all_numbers_take (suc n) [] h = absurd (omega arith)
+all_numbers_take (suc n) (a ∷ []) h = absurd (omega arith)
+all_numbers_take (suc n) (a ∷ b ∷ bytes) h =
+    let e : 2 * suc n ≡ suc (suc (2 * n)) = omega arith in
+    rw e (ap {B = List ℕ} (λ t. (a + 256 * b) ∷ t) (all_numbers_take n bytes (omega arith)))
 
 -- only the bytes of the numbers matter
 pub numbers_take : (n m : ℕ) (bytes : List ℕ) → 2 * n ≤ m → numbers n (take m bytes) ≡ numbers n bytes

@@ -1,9 +1,12 @@
 -- How often each depth came: a table with a place for each depth from 0, which stands for "not in the list".
 use Rattle.std.specs.Prelude.{ℕ, zero, suc, ◌+◌, ◌≤◌, ◌<◌, false, ◌≡◌, refl, List, [], ◌∷◌, eqb, leb, ltb, length}
-use Rattle.std.specs.Prelude.{get_or, set, replicate}
+use Rattle.std.specs.Prelude.{get_or, set, replicate, sum, take, drop}
 use Rattle.std.proofs.Common.{arith, add-one, sym, ◌∙◌, length-set, get_or-set_same, get_or-set_other, ltb-true}
 use Rattle.std.proofs.Common.{ltb-false, eqb-true, leb-true, leb-false, le-leb}
+use Rattle.std.proofs.Common.{take-suc, length-drop, one-add}
 use Rattle.std.proofs.lemmas.List.{length-replicate}
+use Rattle.std.proofs.lemmas.List.Sums.{sum_by_push}
+use Rattle.std.proofs.Math.Seq.{get_or-drop}
 use Rattle.std.proofs.Math.Seq.{set_out}
 use Rattle.std.proofs.lemmas.Bool.{eqb-false, lt-leb}
 use Rattle.rules.specs.Limits.{capacities}
@@ -135,3 +138,16 @@ up_to_grows depths (suc c) zero h = absurd (omega arith)
 up_to_grows depths c (suc d) h =
     by_cases (eqb c (suc d)) (λ e. rw (eqb-true c (suc d) e) (omega arith))
     (λ e. omega (arith, up_to_grows depths c d (omega (arith, eqb-false c (suc d) e))))
+
+-- the sum up to a place is that of the places after the first
+pub up_to_sum : (table : List ℕ) (c : ℕ) → c < length table → sum (take c (drop 1 table)) ≡ up_to table c
+unfolding up_to
+up_to_sum table zero h = refl
+up_to_sum table (suc c) h =
+    rw (
+      take-suc (drop 1 table) c 0 (omega (arith, length-drop 1 table)),
+      sum_by_push (λ x. x) (take c (drop 1 table)) (get_or (drop 1 table) c 0),
+      up_to_sum table c (omega arith),
+      get_or-drop 1 table c 0,
+      one-add c,
+    )

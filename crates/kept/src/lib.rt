@@ -5,22 +5,31 @@
 mod depths;
 mod shown;
 
-ghost use Rattle.kept.specs.Entries.{entry as «entry_of»};
+ghost use Rattle.kept.specs.Entries.{entry as «entry_of», page_of};
 ghost use Rattle.std.specs.Prelude.{min, ◌≡◌};
 
 pub use depths::{DEPTHS, fill, sum};
-pub use shown::show;
+pub use shown::{Listing, show};
 
 // The entry of a page with a rank: the rank above, the page below, turned round since the smaller page number is the higher.
+#[tactic(auto, unfolding(crate::specs::Entries::entry))]
 pub fn entry(rank: u16, page: u16) -> u32
     ensures { result ≡ «entry_of» (λ p. rank) page }
 {
-    (rank as u32) * 65536 + (65535 - (page as u32))
+    u32::from(rank) * 65536 + u32::from(u16::MAX - page)
+}
+
+// The page of an entry.
+#[tactic(auto, unfolding(crate::specs::Entries::page_of))]
+pub fn page(entry: u32) -> u16
+    ensures { result ≡ page_of entry }
+{
+    u16::MAX - (entry % 65536) as u16
 }
 
 // No more places are in use than there are.
 pub fn in_use(n: usize, places: usize) -> usize
     ensures { result ≡ min n places }
 {
-    if n < places { n } else { places }
+    n.min(places)
 }

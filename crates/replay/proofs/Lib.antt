@@ -3,3 +3,6 @@
 pub mod Promises
 -- The loop over the trace, the hit table, the promise answer by answer:
 pub mod ReplayLaws
+-- How far a trace was followed, and what a count of it answers there:
+pub mod Followed
+pub mod Counted

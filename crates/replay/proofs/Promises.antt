@@ -1,11 +1,11 @@
 -- A session that is given a trace, reference by reference, says what a count of the whole trace says.
-use Rattle.std.specs.Prelude.{ℕ, ◌≤◌, ◌<◌, ◌≡◌, List, length}
+use Rattle.std.specs.Prelude.{ℕ, ◌≤◌, ◌<◌, ◌≡◌, List, length, Err}
 use Rattle.std.proofs.Common.{sym, ◌∙◌, le-leb}
 use Rattle.std.proofs.lemmas.Bool.{lt-leb}
 use Rattle.rules.specs.Limits.{opt}
-use Rattle.rules.specs.Refusals.{refusal}
+use Rattle.rules.specs.Refusals.{Answer}
 use Rattle.rules.specs.AnswerLaws.{accepted_twice}
-use Rattle.rules.specs.declared.Answer.{Answer}
+use Rattle.rules.specs.declared.refusal.Refusal.TheVariants.{BadPolicy}
 use Rattle.count.specs.Count.{Counted, count_answer, count_table}
 use Rattle.replay.specs.Replayed.{Replayed, replay_answer, replay_table}
 
@@ -20,7 +20,7 @@ module _ {trace before after : List ℕ} {policy k : ℕ} {r : Answer} (p : Repl
       }
 
   -- OPT, and every number above it: 5, and the table as it was
-  pub replay_no_opt : opt ≤ policy → (r ≡ refusal 5 0) × (after ≡ before)
+  pub replay_no_opt : opt ≤ policy → (r ≡ Err BadPolicy) × (after ≡ before)
   unfolding replay_answer replay_table
   replay_no_opt ahead = (p.answer ∙ rw (le-leb opt policy ahead), p.table ∙ rw (le-leb opt policy ahead))
 

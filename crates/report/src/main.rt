@@ -11,18 +11,18 @@ use report_text::{INPUT, REPORT};
 use std::io;
 use std::io::{Read, Write};
 
-// Reads until the buffer is full or the input ends, and answers how many bytes came.
+// Reads until the buffer is full or the input ends, and answers how many bytes came. `read_exact` does not say
+// what came of an input that ends before, and `read_to_end` takes memory from the heap.
 fn fill<R: Read>(reader: &mut R, buffer: &mut [u8]) -> io::Result<usize>
     ensures { IfOk result (λ n. IfSome (R.remaining reader.old) (λ input.
         take n buffer.new ≡ take (length buffer.new) input)) }
 {
     let mut n = 0;
     while n < buffer.len() {
-        let more = reader.read(&mut buffer[n..])?;
-        if more == 0 {
-            return Ok(n);
+        match reader.read(&mut buffer[n..])? {
+            0 => return Ok(n),
+            more => n += more,
         }
-        n += more;
     }
     Ok(n)
 }

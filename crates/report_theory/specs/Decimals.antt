@@ -1,6 +1,8 @@
--- Laws of decimal numbers: the digits of a number from those of its tenth, and how many there are.
-use Rattle.std.specs.Prelude.{ℕ, zero, suc, ◌+◌, ◌*◌, ◌^◌, ◌/◌, ◌%◌, ◌≤◌, ◌<◌, ◌≡◌, [], ◌∷◌, ◌++◌, ltb, length}
+-- Laws of decimal numbers: the digits of a number from those of its tenth, how many there are, and that the kit prints the same.
+use Rattle.std.specs.Prelude.{ℕ, zero, suc, ◌+◌, ◌^◌, ◌/◌, ◌%◌, ◌≤◌, ◌<◌, ◌≡◌, [], ◌∷◌, ◌++◌, ltb, length}
+use Rattle.std.specs.Fmt.{decimal as printed}
 use Rattle.std.proofs.Common.{ap, ◌∙◌, not-suc-le-zero, arith, lt-ltb, le-ltb, ltb-false, length-append}
+use Rattle.std.proofs.lemmas.Fmt.{AppendsLastDigit, decimal_from_appends, length-decimal-le, length-decimal-le_succ}
 use Rattle.rules.specs.Cases.{by_cases}
 use Rattle.report_theory.specs.Text.{digit, decimal_in, decimal}
 
@@ -30,23 +32,17 @@ length_digit n h = ap length (decimal_digit n h)
 pub length_more : (n : ℕ) → 10 ≤ n → length (decimal n) ≡ length (decimal (n / 10)) + 1
 length_more n h = ap length (decimal_more n h) ∙ length-append (decimal (n / 10)) (digit (n % 10) ∷ [])
 
--- ten times ten, so many times over
-tens : ℕ → ℕ
-tens zero = 10
-tens (suc d) = 10 * tens d
+appends : AppendsLastDigit decimal_in
+unfolding decimal_in
+appends = record { one = λ k n h. rw (lt-ltb n 10 h); more = λ k n h. rw (le-ltb n 10 h) }
 
-digits_within : (d room n : ℕ) → n < tens d → length (decimal_in room n) ≤ suc d
-unfolding decimal_in tens
-digits_within d zero n h = omega arith
-digits_within zero (suc room) n h = rw (lt-ltb n 10 h) (omega arith)
-digits_within (suc d) (suc room) n h =
-    by_cases (ltb n 10)
-    (λ e. rw e (omega arith))
-    (λ e.
-    let ih : length (decimal_in room (n / 10)) ≤ suc d = digits_within d room (n / 10) (omega arith) in
-    rw e (simp length-append (omega arith)))
+-- a number of 64 bits as `{}` prints it
+pub decimal_printed : (n : ℕ) → n < 2 ^ 64 → decimal n ≡ printed n
+unfolding decimal
+decimal_printed n h = decimal_from_appends decimal_in appends (suc n) n h (omega (arith, length-decimal-le_succ n h))
 
 -- a number of 32 bits has at most ten digits
 pub decimal_short : (n : ℕ) → n < 2 ^ 32 → length (decimal n) ≤ 10
-unfolding decimal tens
-decimal_short n h = digits_within 9 (suc n) n (omega arith)
+decimal_short n h =
+    let small : n < 2 ^ 64 = omega arith in
+    rw (decimal_printed n small) (length-decimal-le 10 n (omega arith) (omega arith) small)

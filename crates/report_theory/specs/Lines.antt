@@ -1,17 +1,33 @@
 -- Laws of the report's lines: read off three hit tables, one line more, and how long they are.
-use Rattle.std.specs.Prelude.{ℕ, zero, suc, ◌-◌, ◌*◌, ◌^◌, ◌≤◌, ◌<◌, ◌≡◌, refl, Bool, true, false, ◌&&◌, leb, ltb}
+use Rattle.std.specs.Prelude.{ℕ, zero, suc, ◌-◌, ◌*◌, ◌^◌, ◌≤◌, ◌<◌, ◌≡◌, refl, true, ◌&&◌, leb, ltb}
 use Rattle.std.specs.Prelude.{length, get_or, take}
 use Rattle.std.proofs.Math.Path.{sym, ap}
 use Rattle.std.proofs.Common.{◌∙◌, add-zero, sub-one, leb-true, take-suc, length-take-le}
 use mathlib.Core.List.{List, [], ◌∷◌, ◌++◌, append_assoc, append-nil}
 use native.Mathlib.Omega.{arith}
 use Rattle.std.proofs.Math.ListN.{length-append, get_or-eq_default}
+use Rattle.std.proofs.lemmas.Bool.{and_parts}
 use Rattle.rules.specs.Limits.{capacities, is_capacity, lru, lfu, opt}
 use Rattle.theory.specs.Plain.{hits_at}
 use Rattle.file_theory.specs.Decoding.{rising}
-use Rattle.report_theory.specs.Report.{line, lines}
+use Rattle.report_theory.specs.Report.{line, ending, lines}
 use Rattle.report_theory.specs.Buffer.{Wrote, written_nothing}
-use Rattle.report_theory.specs.Pieces.{longest_line, line_short}
+use Rattle.report_theory.specs.Decimals.{decimal_short}
+
+-- four numbers of ten digits, three spaces and a newline
+abbrev pub longest_line : ℕ
+longest_line = 44
+
+pub line_short : (k a b c : ℕ) → k < 2 ^ 32 → a < 2 ^ 32 → b < 2 ^ 32 → c < 2 ^ 32 → length (line k a b c) ≤ longest_line
+unfolding line
+line_short k a b c hk ha hb hc =
+    simp length-append
+    (omega (arith, decimal_short k hk, decimal_short a ha, decimal_short b hb, decimal_short c hc))
+
+-- a word of ten letters and a space, a number of ten digits and a newline
+pub ending_short : (n : ℕ) → n < 2 ^ 32 → length (ending n) ≤ 22
+unfolding ending
+ending_short n h = simp length-append (omega (arith, decimal_short n h))
 
 -- A4: entry C - 1 of a hit table is the hits at C; at no frames there are none
 abbrev pub hits_in : List ℕ → ℕ → ℕ
@@ -88,21 +104,15 @@ module _ (a b c : List ℕ) where
 abbrev pub Holds : ℕ → List ℕ → List ℕ → Type 0
 Holds policy refs table = (k : ℕ) → 1 ≤ k → k ≤ capacities → hits_in table k ≡ hits_at policy k refs
 
-both : (x y : Bool) → x && y ≡ true → (x ≡ true) × (y ≡ true)
-both true true e = (refl, refl)
-both true false e = (refl, e)
-both false true e = (e, refl)
-both false false e = (e, e)
-
 -- of capacities that keep R9, the lines of such tables are the lines of the hits
 pub hits_lines : (refs a b c : List ℕ) → Holds lru refs a → Holds lfu refs b → Holds opt refs c
     → (before : ℕ) (ks : List ℕ) → rising before ks ≡ true → table_lines a b c ks ≡ lines refs ks
 unfolding table_lines lines rising
 hits_lines refs a b c ha hb hc before [] e = refl
 hits_lines refs a b c ha hb hc before (k ∷ ks) e =
-    let ok = both (is_capacity k) (ltb before k && rising k ks) e in
-    let range = both (leb 1 k) (leb k capacities) ok.0 in
-    let rest = both (ltb before k) (rising k ks) ok.1 in
+    let ok = and_parts (is_capacity k) (ltb before k && rising k ks) e in
+    let range = and_parts (leb 1 k) (leb k capacities) ok.0 in
+    let rest = and_parts (ltb before k) (rising k ks) ok.1 in
     let low : 1 ≤ k = leb-true 1 k range.0 in
     let high : k ≤ capacities = leb-true k capacities range.1 in
     rw (ha k low high, hb k low high, hc k low high, hits_lines refs a b c ha hb hc k ks rest.1)

@@ -1,4 +1,5 @@
--- The pieces that the code writes in one go, how the report is put together from them, and how long they are.
+-- The pieces of the report that are a number and the byte behind it, how the report is put together from its pieces, and how
+-- long they are.
 use Rattle.std.specs.Prelude.{ℕ, ◌+◌, ◌^◌, ◌≤◌, ◌<◌, ◌≡◌, List, [], ◌∷◌, ◌++◌, length}
 use Rattle.std.proofs.Common.{ap, ◌∙◌, append_assoc, arith, length-append}
 use Rattle.report_theory.specs.Text.{text, decimal}
@@ -6,7 +7,7 @@ use Rattle.report_theory.specs.Report.{line, heading, ending, refused_line}
 use Rattle.report_theory.specs.Buffer.{Wrote, then}
 use Rattle.report_theory.specs.Decimals.{decimal_short}
 
--- a number with the byte behind it: what the code writes in one go
+-- a number with the byte behind it
 abbrev pub number_then : ℕ → ℕ → List ℕ
 number_then n behind = decimal n ++ (behind ∷ [])
 
@@ -45,15 +46,6 @@ report_written body n room a b c d =
     (then (omega (arith, length-append heading body, length-append (heading ++ body) (text "references ")))
     (then (omega (arith, length-append heading body)) (then (omega arith) a b) c) d)
 
--- four numbers of ten digits, three spaces and a newline
-abbrev pub longest_line : ℕ
-longest_line = 44
-
-pub line_short : (k a b c : ℕ) → k < 2 ^ 32 → a < 2 ^ 32 → b < 2 ^ 32 → c < 2 ^ 32 → length (line k a b c) ≤ longest_line
-unfolding line
-line_short k a b c hk ha hb hc =
-    simp length-append
-    (omega (arith, decimal_short k hk, decimal_short a ha, decimal_short b hb, decimal_short c hc))
-
+-- ten digits at most, and that byte
 pub number_short : (n behind : ℕ) → n < 2 ^ 32 → length (number_then n behind) ≤ 11
 number_short n behind h = omega (arith, length-append (decimal n) (behind ∷ []), decimal_short n h)

@@ -1,8 +1,10 @@
 -- The report as a definition of the file's bytes (docs/RULES.md, T1 and T2): the hits are those of the plain caches (D2).
-use Rattle.std.specs.Prelude.{ℕ, List, [], ◌∷◌, ◌++◌, length}
+use Rattle.std.specs.Prelude.{ℕ, List, [], ◌∷◌, ◌++◌, length, Result, Ok, Err}
 use Rattle.rules.specs.Limits.{lru, lfu, opt}
+use Rattle.rules.specs.Refusals.{refusal_number}
+use Rattle.rules.specs.declared.refusal.Refusal.{Refusal}
 use Rattle.theory.specs.Plain.{hits_at}
-use Rattle.file_theory.specs.Decoding.{Outcome, says, refuses, Trace, trace_in}
+use Rattle.file_theory.specs.Decoding.{Trace, trace_in}
 use Rattle.report_theory.specs.Text.{text, decimal}
 
 -- T1: a capacity and its hits under the three policies
@@ -25,9 +27,9 @@ unfoldable pub lines : List ℕ → List ℕ → List ℕ
 lines refs [] = []
 lines refs (c ∷ cs) = line c (hits_at lru c refs) (hits_at lfu c refs) (hits_at opt c refs) ++ lines refs cs
 
-abbrev pub report_for : Outcome Trace → List ℕ
-report_for (says t) = heading ++ lines t.refs t.caps ++ ending (length t.refs)
-report_for (refuses r) = refused_line r.number
+abbrev pub report_for : Result Trace Refusal → List ℕ
+report_for (Ok t) = heading ++ lines t.refs t.caps ++ ending (length t.refs)
+report_for (Err r) = refused_line (refusal_number r)
 
 -- T1 and T2: what is printed for a file
 unfoldable pub report : List ℕ → List ℕ

@@ -19,9 +19,7 @@ fn squeeze(slots: &mut PerSlot, places: &mut PerFrame) -> usize
     ensures { SqueezedNow slots.old result slots.new places.new }
 {
     let mut to = SLOTS;
-    let mut i = SLOTS;
-    while 0 < i {
-        i -= 1;
+    for i in (0..SLOTS).rev() {
         let frame = slots[i];
         slots[i] = EMPTY;
         if frame < FRAMES {

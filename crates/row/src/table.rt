@@ -4,53 +4,49 @@ ghost use Rattle.row_theory.specs.States.{busy, held_bit as «held_bit_of», hel
 ghost use Rattle.row_theory.specs.Promise.{asked};
 
 use row_theory::{ABSENT, BUSY, Event, IDLE, PerFrame};
-use rules::{BAD_FRAME, BUSY_FRAME, FRAMES, HELD, HELD_ALREADY, IDLE_FRAME, NOT_HELD, ROW_FULL};
-
-// Rows absent, idle, busy; columns put, touch, start, end, drop. An entry above BUSY is a refusal.
-const NEXT: [[u8; 5]; 3] = [
-    [IDLE, NOT_HELD, NOT_HELD, NOT_HELD, NOT_HELD],
-    [HELD_ALREADY, IDLE, BUSY, IDLE_FRAME, ABSENT],
-    [HELD_ALREADY, BUSY, BUSY_FRAME, IDLE, BUSY_FRAME],
-];
+use rules::{FRAMES, HELD, Refusal};
 
 // The table's entry: a next state or a refusal.
 #[tactic(auto, unfolding(row_theory::specs::States::table_at))]
-fn next(state: u8, event: Event) -> u8
+fn next(state: u8, event: Event) -> Result<u8, Refusal>
     requires { state ≤ busy }
     ensures { result ≡ table_at state event }
 {
-    let row = NEXT[state as usize];
-    match event {
-        Event::Put => row[0],
-        Event::Touch => row[1],
-        Event::Start => row[2],
-        Event::End => row[3],
-        Event::Drop => row[4],
+    match (state, event) {
+        (ABSENT, Event::Put) => Ok(IDLE),
+        (ABSENT, _) => Err(Refusal::NotHeld),
+        (_, Event::Put) => Err(Refusal::HeldAlready),
+        (_, Event::Touch) => Ok(state),
+        (IDLE, Event::Start) => Ok(BUSY),
+        (_, Event::Start) => Err(Refusal::BusyFrame),
+        (IDLE, Event::End) => Err(Refusal::IdleFrame),
+        (_, Event::End) => Ok(IDLE),
+        (IDLE, Event::Drop) => Ok(ABSENT),
+        (_, Event::Drop) => Err(Refusal::BusyFrame),
     }
 }
 
-// The refusal's number, or the state that the call gives its frame (rule O6).
+// The state that the call gives its frame, or the refusal (rule O6).
 #[tactic(auto, using(row_theory::proofs::VerdictLaws::verdicts))]
-pub(crate) fn verdict(states: &PerFrame, held: usize, event: Event, frame: u8) -> u8
+pub(crate) fn verdict(
+    states: &PerFrame,
+    held: usize,
+    event: Event,
+    frame: u8,
+) -> Result<u8, Refusal>
     requires { ((f : ℕ) → get_or states.now f 0 ≤ busy) × (held ≡ held_in states.now) }
     ensures { result ≡ verdict_of states.now (asked event frame) }
 {
     if FRAMES <= frame {
-        return BAD_FRAME;
+        return Err(Refusal::BadFrame);
     }
     let state = states[frame as usize];
-    let then = next(state, event);
-    if BUSY < then {
-        return then;
-    }
+    let then = next(state, event)?;
     // A held frame takes no more room, and of an absent one the table lets only a put through.
-    if state != ABSENT {
-        return then;
+    if state == ABSENT && HELD <= held {
+        return Err(Refusal::RowFull);
     }
-    if HELD <= held {
-        return ROW_FULL;
-    }
-    then
+    Ok(then)
 }
 
 // What a frame in this state adds to the number held.
@@ -58,8 +54,5 @@ pub(crate) fn verdict(states: &PerFrame, held: usize, event: Event, frame: u8) -
 pub(crate) fn held_bit(state: u8) -> usize
     ensures { result ≡ «held_bit_of» state }
 {
-    if state == ABSENT {
-        return 0;
-    }
-    1
+    usize::from(state != ABSENT)
 }

@@ -1,14 +1,14 @@
 -- What `banks` answers to memory that was tested, told in numbers, meets the exported call's promise; and two answers that both
 -- meet one are equal, and so is the memory they leave.
-use Rattle.std.specs.Prelude.{ℕ, ◌≡◌, refl, Bool, true, false, List, length}
+use Rattle.std.specs.Prelude.{ℕ, ◌≡◌, refl, Bool, true, false, List, length, Result}
 use Rattle.std.proofs.Common.{arith, sym, ◌∙◌}
 use Rattle.std.proofs.Math.Path.{ap}
 use Rattle.rules.specs.Cases.{by_cases, clash}
 use Rattle.rules.specs.Lists.{one}
 use Rattle.rules.specs.Refusals.{unsound}
-use Rattle.rules.specs.Told.{Told, told}
-use Rattle.row_theory.specs.declared.Reply.{Reply}
-use Rattle.row_theory.specs.declared.Victim.{Victim}
+use Rattle.rules.specs.declared.Frame.{Frame}
+use Rattle.rules.specs.declared.refusal.Refusal.{Refusal}
+use Rattle.rules.specs.Told.{Told, told, told_of}
 use Rattle.bank_theory.specs.Banks.{Step, refusal_under}
 use Rattle.bank_theory.specs.BankHistory.{Seen}
 use Rattle.bank_theory.specs.Gated.{Gated, gated_then, reply_under, victim_under}
@@ -20,7 +20,7 @@ use Rattle.bank_theory.proofs.Powered.{powered_after}
 use Rattle.bank_theory.proofs.GateLaws.{banks_of_gates}
 use Rattle.bank_theory.proofs.BankTheorems.{victim_under_says}
 use Rattle.bank_theory.specs.BankTest.{banks_sound, BanksTested}
-use Rattle.row_exports.specs.Told.{replied_of, chosen_of}
+use Rattle.row_exports.specs.Told.{chosen_of}
 use Rattle.row_exports.specs.RowLaws.{stands_left, told_number}
 use Rattle.row_exports.specs.BanksTold.{memory_under, BanksSays, BanksTold, OpenVictimTold}
 use Rattle.row_exports.specs.BanksTold.{BanksSoundTold}
@@ -56,7 +56,7 @@ stands_left_under {m} stands =
 
 -- what the definitions' answer and memory say of the calls before
 pub banks_says : (history : List Step) (step : Step) →
-    BanksSays history step (replied_of (reply_under (gated_after history) step))
+    BanksSays history step (told_of (reply_under (gated_after history) step))
     (memory_under (gated_then (gated_after history) step))
 unfolding gated_after
 banks_says history step =
@@ -80,11 +80,11 @@ module _ {m : BankMemory} {ok : Bool} (tested : BanksTested m ok) where
       }
 
   -- memory that passes it
-  pub banks_told : {step also : Step} {reply : Reply} {t : Told} {m' : BankMemory} → ok ≡ true → AlikeUnder also step →
-      AnsweredUnder m also reply m' → t ≡ replied_of reply → BanksTold m step t m'
+  pub banks_told : {step also : Step} {reply : Result ℕ Refusal} {t : Told} {m' : BankMemory} → ok ≡ true → AlikeUnder also step →
+      AnsweredUnder m also reply m' → t ≡ told_of reply → BanksTold m step t m'
   banks_told {step} {also} {reply} {t} {m'} passed alike met is =
       let passes : banks_sound m ≡ true = sym tested.answer ∙ passed in
-      let answer : t ≡ replied_of (reply_under (gated_in m) step) = is ∙ ap replied_of (met.answer ∙ alike.reply (gated_in m)) in
+      let answer : t ≡ told_of (reply_under (gated_in m) step) = is ∙ ap told_of (met.answer ∙ alike.reply (gated_in m)) in
       let next : m' ≡ memory_under (gated_then (gated_in m) step) =
       stands_left_under met.stands ∙ ap memory_under (met.next ∙ alike.next (gated_in m)) in
       record {
@@ -99,8 +99,8 @@ module _ {m : BankMemory} {ok : Bool} (tested : BanksTested m ok) where
       let fails : banks_sound m ≡ false = sym tested.answer ∙ failed in
       record { answer = rw fails; says = λ history left. clash (tested.given (left_stands_under history left)) failed }
 
-  pub open_victim_told : {victim : Victim} {t : Told} → ok ≡ true → OldestOpen (gated_in m) victim → t ≡ chosen_of victim →
-      OpenVictimTold m t
+  pub open_victim_told : {victim : Result Frame Refusal} {t : Told} → ok ≡ true → OldestOpen (gated_in m) victim →
+      t ≡ chosen_of victim → OpenVictimTold m t
   open_victim_told {victim} {t} passed met is =
       let passes : banks_sound m ≡ true = sym tested.answer ∙ passed in
       let answer : t ≡ chosen_of (victim_under (gated_in m)) = is ∙ ap chosen_of met.answer in

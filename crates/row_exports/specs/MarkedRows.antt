@@ -4,7 +4,7 @@ use Rattle.std.specs.Prelude.{ℕ, ◌≡◌, refl, List, [], ◌∷◌, replica
 use Rattle.rules.specs.Case.{Case, gotten, wished}
 use Rattle.rules.specs.AllBelow.{all_below}
 use Rattle.rules.specs.Lists.{values_from}
-use Rattle.rules.specs.Told.{Told, tested_told}
+use Rattle.rules.specs.Told.{Told, tested_told, told_of}
 use Rattle.row_theory.specs.States.{table_at, held_bit, held_in, verdict_of, accepts, refusal_of}
 use Rattle.row_theory.specs.Slots.{frames_in, examined_then}
 use Rattle.row_theory.specs.Row.{reply_of}
@@ -15,7 +15,6 @@ use Rattle.bank_theory.specs.Banks.{of_frame, shut_out, in_open}
 use Rattle.bank_theory.specs.Gated.{reply_under}
 use Rattle.bank_theory.specs.BankPromise.{BankMemory, bank_memory, banks_in, gated_in}
 use Rattle.bank_theory.specs.BankTest.{gate_sound, bank_sound, banks_sound}
-use Rattle.row_exports.specs.Told.{replied_of}
 
 -- a row of zeros, with this front; a fresh row; and banks over it with these gates
 abbrev zeros : ℕ → Memory
@@ -30,11 +29,11 @@ shown t = t.number ∷ t.value ∷ []
 unfoldable pub put_told : Memory → ℕ → List ℕ
 unfolding row_sound slot_sound frame_sound place_sound room_sound all_below frames_in held_in held_bit reply_of accepts
     verdict_of table_at refusal_of examined_then
-put_told m frame = shown (tested_told (row_sound m) (replied_of (reply_of (row_in m) (asked Put frame))))
+put_told m frame = shown (tested_told (row_sound m) (told_of (reply_of (row_in m) (asked Put frame))))
 
 unfoldable pub put_told_under : BankMemory → ℕ → List ℕ
 unfolding put_told banks_sound bank_sound gate_sound banks_in values_from reply_under shut_out in_open
-put_told_under m frame = shown (tested_told (banks_sound m) (replied_of (reply_under (gated_in m) (of_frame (asked Put frame)))))
+put_told_under m frame = shown (tested_told (banks_sound m) (told_of (reply_under (gated_in m) (of_frame (asked Put frame)))))
 
 abbrev pub p16 : Case
 p16 =

@@ -1,19 +1,19 @@
 -- A frame or a bank comes as 32 bits and is handed on in a byte (docs/RULES.md, X1): a number that does not fit becomes 255,
 -- which is no frame's and no bank's either, so that every answer is the same.
-use Rattle.std.specs.Prelude.{ℕ, ◌≤◌, min, ◌≡◌, false, List}
+use Rattle.std.specs.Prelude.{ℕ, ◌≤◌, min, ◌≡◌, false, List, Err}
 use Rattle.std.proofs.Common.{arith, sym, ◌∙◌, le-leb, le-ltb}
 use Rattle.std.proofs.Math.Bool.{and-false}
 use Rattle.rules.specs.Limits.{frames}
 use Rattle.rules.specs.Limits
 use Rattle.rules.specs.Narrow.{narrow}
-use Rattle.rules.specs.Refusals.{bad_frame, bad_bank}
-use Rattle.row_theory.specs.States.{Call, verdict_of, accepts, refusal_of}
+use Rattle.rules.specs.declared.refusal.Refusal.TheVariants.{BadFrame, BadBank}
+use Rattle.row_theory.specs.States.{Call, verdict_of, accepts}
 use Rattle.row_theory.specs.Row.{Row, after, reply_of}
 use Rattle.row_theory.specs.Promise.{asked}
 use Rattle.row_theory.specs.declared.Event.{Event}
 use Rattle.bank_theory.specs.declared.Gating.{Gating}
-use Rattle.bank_theory.specs.Banks.{Step, of_frame, of_bank, is_cut, gating_refusal, shut_out, shut, banks_under}
-use Rattle.bank_theory.specs.Gated.{Gated, gated_then, refused_reply, reply_under, row_under}
+use Rattle.bank_theory.specs.Banks.{Step, of_frame, of_bank, is_cut, gating_verdict, shut_out, shut, banks_under}
+use Rattle.bank_theory.specs.Gated.{Gated, gated_then, reply_under, row_under}
 
 -- two calls that answer alike and leave alike, whatever the row
 pub record Alike (one two : Call) : Type 0 where
@@ -22,8 +22,8 @@ pub record Alike (one two : Call) : Type 0 where
 
 -- R20: a number that is no frame's
 module _ (row : Row) (event : Event) (frame : ℕ) (past : frames ≤ frame) where
-  bad_reply : reply_of row (asked event frame) ≡ refused_reply bad_frame
-  unfolding reply_of refusal_of accepts verdict_of
+  bad_reply : reply_of row (asked event frame) ≡ Err BadFrame
+  unfolding reply_of verdict_of
   bad_reply = rw (le-leb frames frame past)
 
   bad_after : after row (asked event frame) ≡ row
@@ -51,7 +51,7 @@ unfolding shut_out
 not_shut banks event frame past = rw (le-ltb frame frames past)
 
 frame_reply : (gated : Gated) (event : Event) (frame : ℕ) → frames ≤ frame →
-    reply_under gated (of_frame (asked event frame)) ≡ refused_reply bad_frame
+    reply_under gated (of_frame (asked event frame)) ≡ Err BadFrame
 unfolding reply_under
 frame_reply gated event frame past =
     rw (not_shut gated.banks event frame past) (bad_reply gated.row event frame past)
@@ -77,12 +77,12 @@ narrow_frame event frame =
 
 -- R32: a number that is no bank's
 bank_refused : (states banks : List ℕ) (gating : Gating) (bank : ℕ) → Limits.banks ≤ bank →
-    gating_refusal states banks gating bank ≡ bad_bank
-unfolding gating_refusal
+    gating_verdict states banks gating bank ≡ Err BadBank
+unfolding gating_verdict
 bank_refused states banks gating bank past = rw (le-leb Limits.banks bank past)
 
 bank_reply : (gated : Gated) (gating : Gating) (bank : ℕ) → Limits.banks ≤ bank →
-    reply_under gated (of_bank gating bank) ≡ refused_reply bad_bank
+    reply_under gated (of_bank gating bank) ≡ Err BadBank
 unfolding reply_under
 bank_reply gated gating bank past = rw (bank_refused gated.row.states gated.banks gating bank past)
 

@@ -1,13 +1,17 @@
 -- For whoever drives a row or banks through the exported calls: 40 is given exactly where the memory fails the test, and a caller
 -- who starts with a fresh one and lets only these calls write it never sees it.
-use Rattle.std.specs.Prelude.{ℕ, zero, suc, ◌<◌, ◌≡◌, true, false, ◌&&◌, List, [], ◌∷◌, leb, ltb, eqb}
+use Rattle.std.specs.Prelude.{ℕ, zero, suc, ◌<◌, ◌≡◌, Bool, true, false, cond, not, ◌&&◌, List, [], ◌∷◌, leb, eqb}
+use Rattle.std.specs.Prelude.{Result, Ok, Err}
+use Rattle.std.specs.Result.{result_and}
 use Rattle.std.proofs.Common.{arith, sym, ◌∙◌, ap}
 use Rattle.rules.specs.Limits.{frames, held}
 use Rattle.rules.specs.Limits
 use Rattle.rules.specs.Cases.{by_cases, clash}
-use Rattle.rules.specs.Refusals.{unsound, wrong_bank_state}
+use Rattle.rules.specs.Refusals.{unsound}
+use Rattle.rules.specs.declared.refusal.Refusal.{Refusal}
+use Rattle.rules.specs.declared.refusal.Refusal.TheVariants.{BadFrame, RowFull, BadBank, WrongBankState, BankBusy}
 use Rattle.rules.specs.Told.{Told}
-use Rattle.row_theory.specs.States.{Call, busy, state_of, table_at, cell_of, held_in, is_put, verdict_of, accepts, refusal_of}
+use Rattle.row_theory.specs.States.{Call, state_of, table_at, cell_of, held_in, is_put, verdict_of, number_in, refusal_of}
 use Rattle.row_theory.specs.Row.{reply_of}
 use Rattle.row_theory.specs.Runs.{row_after}
 use Rattle.row_theory.specs.Promise.{Memory, row_in, FreshRow}
@@ -18,8 +22,9 @@ use Rattle.row_theory.proofs.TestLaws.{sound_stands, stands_sound}
 use Rattle.row_theory.specs.declared.Event.{Event}
 use Rattle.row_theory.specs.declared.Event.TheVariants.{Put, Touch, Start, End, Drop}
 use Rattle.bank_theory.specs.declared.Gating.{Gating}
-use Rattle.bank_theory.specs.Banks.{Step, of_frame, of_bank, gated_to, bank_state, is_cut, busy_in, gating_refusal}
-use Rattle.bank_theory.specs.Banks.{shut, refusal_under}
+use Rattle.bank_theory.specs.declared.Gating.TheVariants.{Close, Cut, Open}
+use Rattle.bank_theory.specs.Banks.{Step, of_frame, of_bank, off, opened, closing, gated_to, bank_state, is_cut, busy_in}
+use Rattle.bank_theory.specs.Banks.{gating_verdict, gating_refusal, shut, refusal_under}
 use Rattle.bank_theory.specs.Gated.{reply_under}
 use Rattle.bank_theory.specs.BankRuns.{gated_after}
 use Rattle.bank_theory.specs.BankPromise.{BankMemory, gated_in, FreshBanks}
@@ -38,10 +43,13 @@ any_state P a i b more (suc zero) = i
 any_state P a i b more (suc (suc zero)) = b
 any_state P a i b more (suc (suc (suc n))) = more n
 
-abbrev SmallAt : Event → ℕ → Type 0
-SmallAt event state = table_at state event < unsound
+abbrev Small : Result ℕ Refusal → Type 0
+Small r = number_in r < unsound
 
-table_small : (event : Event) (state : ℕ) → table_at state event < unsound
+abbrev SmallAt : Event → ℕ → Type 0
+SmallAt event state = Small (table_at state event)
+
+table_small : (event : Event) (state : ℕ) → SmallAt event state
 unfolding table_at
 table_small Put = any_state (SmallAt Put) (omega arith) (omega arith) (omega arith) (λ n. omega arith)
 table_small Touch = any_state (SmallAt Touch) (omega arith) (omega arith) (omega arith) (λ n. omega arith)
@@ -49,25 +57,37 @@ table_small Start = any_state (SmallAt Start) (omega arith) (omega arith) (omega
 table_small End = any_state (SmallAt End) (omega arith) (omega arith) (omega arith) (λ n. omega arith)
 table_small Drop = any_state (SmallAt Drop) (omega arith) (omega arith) (omega arith) (λ n. omega arith)
 
+chosen_small : (test : Bool) (a b : Result ℕ Refusal) → Small a → Small b → Small (cond test a b)
+chosen_small true a b x y = x
+chosen_small false a b x y = y
+
+both_small : (a b : Result ℕ Refusal) → Small a → Small b → Small (result_and a b)
+both_small (Ok n) b x y = y
+both_small (Err r) b x y = x
+
 refusal_small : (states : List ℕ) (call : Call) → refusal_of states call < unsound
 unfolding refusal_of verdict_of
 refusal_small states call =
-    let cell : cell_of states call < unsound = table_small call.event (state_of states call.frame) in
-    by_cases (accepts states call) (λ e. rw e (omega arith))
-    (λ e. rw e
-    (by_cases (leb frames call.frame) (λ f. rw f (omega arith))
-    (λ f. rw f
-    (by_cases (ltb busy (cell_of states call)) (λ g. rw g cell)
-    (λ g. rw g
-    (by_cases (is_put call.event && leb held (held_in states)) (λ h. rw h (omega arith)) (λ h. rw h cell)))))))
+    let cell = cell_of states call in
+    let full = is_put call.event && leb held (held_in states) in
+    let small : Small cell = table_small call.event (state_of states call.frame) in
+    chosen_small (leb frames call.frame) (Err BadFrame) (result_and cell (cond full (Err RowFull) cell)) (omega arith)
+    (both_small cell (cond full (Err RowFull) cell) small (chosen_small full (Err RowFull) cell (omega arith) small))
+
+gated_small : (gating : Gating) (state : ℕ) → Small (gated_to gating state)
+unfolding gated_to
+gated_small Close state = chosen_small (eqb state opened) (Ok closing) (Err WrongBankState) (omega arith) (omega arith)
+gated_small Cut state = chosen_small (eqb state closing) (Ok off) (Err WrongBankState) (omega arith) (omega arith)
+gated_small Open state = chosen_small (not (eqb state opened)) (Ok opened) (Err WrongBankState) (omega arith) (omega arith)
 
 gating_small : (states banks : List ℕ) (gating : Gating) (bank : ℕ) → gating_refusal states banks gating bank < unsound
-unfolding gating_refusal
+unfolding gating_refusal gating_verdict
 gating_small states banks gating bank =
-    by_cases (leb Limits.banks bank) (λ e. rw e (omega arith))
-    (λ e. rw e
-    (by_cases (eqb (gated_to gating (bank_state banks bank)) wrong_bank_state) (λ f. rw f (omega arith))
-    (λ f. rw f (by_cases (is_cut gating && busy_in states bank) (λ g. rw g (omega arith)) (λ g. rw g (omega arith))))))
+    let next = gated_to gating (bank_state banks bank) in
+    let busy = is_cut gating && busy_in states bank in
+    let small : Small next = gated_small gating (bank_state banks bank) in
+    chosen_small (leb Limits.banks bank) (Err BadBank) (result_and next (cond busy (Err BankBusy) next)) (omega arith)
+    (both_small next (cond busy (Err BankBusy) next) small (chosen_small busy (Err BankBusy) next (omega arith) small))
 
 under_small : (states banks : List ℕ) (step : Step) → refusal_under states banks step < unsound
 unfolding refusal_under

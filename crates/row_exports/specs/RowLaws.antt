@@ -1,12 +1,14 @@
 -- What `row` answers to memory that was tested, told in numbers, meets the exported call's promise; and two answers that both
 -- meet one are equal, and so is the memory they leave.
-use Rattle.std.specs.Prelude.{ℕ, ◌≡◌, refl, Bool, true, false, List}
+use Rattle.std.specs.Prelude.{ℕ, ◌≡◌, refl, Bool, true, false, List, Result, Ok, Err}
 use Rattle.std.proofs.Common.{arith, sym, ◌∙◌}
 use Rattle.std.proofs.Math.Path.{ap}
 use Rattle.rules.specs.Cases.{by_cases, clash}
 use Rattle.rules.specs.Lists.{one}
 use Rattle.rules.specs.Refusals.{unsound}
-use Rattle.rules.specs.Told.{Told, told}
+use Rattle.rules.specs.declared.Frame.{Frame}
+use Rattle.rules.specs.declared.refusal.Refusal.{Refusal}
+use Rattle.rules.specs.Told.{Told, told, told_of}
 use Rattle.row_theory.specs.States.{Call, refusal_of}
 use Rattle.row_theory.specs.Row.{Row, any_frame, after, reply_of, reply_number, victim_of}
 use Rattle.row_theory.specs.Runs.{row_after}
@@ -15,10 +17,7 @@ use Rattle.row_theory.proofs.PromiseLaws.{number_of_reply}
 use Rattle.row_theory.proofs.SoundRow.{sound_after}
 use Rattle.row_theory.proofs.Theorems.{idle_victim_says}
 use Rattle.row_theory.specs.RowTest.{row_sound, RowTested}
-use Rattle.row_theory.specs.declared.Reply.{Reply}
-use Rattle.row_theory.specs.declared.Reply.TheVariants.{Done, Refused}
-use Rattle.row_theory.specs.declared.Victim.{Victim}
-use Rattle.row_exports.specs.Told.{replied_of, chosen_of}
+use Rattle.row_exports.specs.Told.{chosen_of}
 use Rattle.row_exports.specs.RowTold.{memory_of, RowSays, RowTold, VictimTold, RowSoundTold}
 use Rattle.row_exports.specs.Narrow.{Alike}
 
@@ -33,13 +32,13 @@ stands_left {m} stands =
     λ i. record { slots = m.slots; places = index i; states = m.states; front = m.front; held = m.held }
 
 -- the number of a reply told
-pub told_number : (reply : Reply) → (replied_of reply).number ≡ reply_number reply
-told_number (Done n) = refl
-told_number (Refused r) = refl
+pub told_number : (reply : Result ℕ Refusal) → (told_of reply).number ≡ reply_number reply
+told_number (Ok n) = refl
+told_number (Err r) = refl
 
 -- what the definitions' answer and memory say of the calls before
 pub row_says : (history : List Call) (call : Call) →
-    RowSays history call (replied_of (reply_of (row_after history) call)) (memory_of (after (row_after history) call))
+    RowSays history call (told_of (reply_of (row_after history) call)) (memory_of (after (row_after history) call))
 unfolding row_after
 row_says history call =
     record {
@@ -62,11 +61,11 @@ module _ {m : Memory} {ok : Bool} (tested : RowTested m ok) where
       }
 
   -- memory that passes it
-  pub row_told : {call also : Call} {reply : Reply} {t : Told} {m' : Memory} → ok ≡ true → Alike also call →
-      Answered m also reply m' → t ≡ replied_of reply → RowTold m call t m'
+  pub row_told : {call also : Call} {reply : Result ℕ Refusal} {t : Told} {m' : Memory} → ok ≡ true → Alike also call →
+      Answered m also reply m' → t ≡ told_of reply → RowTold m call t m'
   row_told {call} {also} {reply} {t} {m'} passed alike met is =
       let passes : row_sound m ≡ true = sym tested.answer ∙ passed in
-      let answer : t ≡ replied_of (reply_of (row_in m) call) = is ∙ ap replied_of (met.answer ∙ alike.reply (row_in m)) in
+      let answer : t ≡ told_of (reply_of (row_in m) call) = is ∙ ap told_of (met.answer ∙ alike.reply (row_in m)) in
       let next : m' ≡ memory_of (after (row_in m) call) =
       stands_left met.stands ∙ ap memory_of (met.next ∙ alike.next (row_in m)) in
       record {
@@ -83,8 +82,8 @@ module _ {m : Memory} {ok : Bool} (tested : RowTested m ok) where
       let fails : row_sound m ≡ false = sym tested.answer ∙ failed in
       record { answer = rw fails; says = λ history left. clash (tested.given (left_stands history left)) failed }
 
-  pub victim_told : {victim : Victim} {t : Told} → ok ≡ true → OldestIdle (row_in m) any_frame victim → t ≡ chosen_of victim →
-      VictimTold m t
+  pub victim_told : {victim : Result Frame Refusal} {t : Told} → ok ≡ true → OldestIdle (row_in m) any_frame victim →
+      t ≡ chosen_of victim → VictimTold m t
   victim_told {victim} {t} passed met is =
       let passes : row_sound m ≡ true = sym tested.answer ∙ passed in
       let answer : t ≡ chosen_of (victim_of (row_in m)) = is ∙ ap chosen_of met.answer in

@@ -3,7 +3,7 @@
 -- and calls left.
 use Rattle.std.specs.Prelude.{ℕ, ◌≡◌, cond, List, ◌∷◌}
 use Rattle.rules.specs.Lists.{one}
-use Rattle.rules.specs.Told.{Told, tested_told}
+use Rattle.rules.specs.Told.{Told, tested_told, told_of}
 use Rattle.row_theory.specs.States.{Call, refusal_of}
 use Rattle.row_theory.specs.Slots.{places_in}
 use Rattle.row_theory.specs.Row.{Row, any_frame, after, reply_of, victim_of}
@@ -11,7 +11,7 @@ use Rattle.row_theory.specs.History.{states_after, VictimSays}
 use Rattle.row_theory.specs.Runs.{row_after}
 use Rattle.row_theory.specs.Promise.{Memory, memory, row_in, Stands}
 use Rattle.row_theory.specs.RowTest.{row_sound}
-use Rattle.row_exports.specs.Told.{replied_of, chosen_of}
+use Rattle.row_exports.specs.Told.{chosen_of}
 
 -- the memory of a row: its slots and their places, its states, its front and the number held
 abbrev pub memory_of : Row → Memory
@@ -20,13 +20,13 @@ memory_of row = memory row.slots (places_in row.slots) row.states row.front row.
 -- what a call says of the calls before it: its answer, the number that the rules give by the states after them, and the memory
 -- of one call more
 pub record RowSays (history : List Call) (call : Call) (t : Told) (m' : Memory) : Type 0 where
-  pub answer : t ≡ replied_of (reply_of (row_after history) call)
+  pub answer : t ≡ told_of (reply_of (row_after history) call)
   pub number : t.number ≡ refusal_of (states_after history) call
   pub next : m' ≡ memory_of (row_after (call ∷ history))
 
 -- one of the five calls
 pub record RowTold (m : Memory) (call : Call) (t : Told) (m' : Memory) : Type 0 where
-  pub answer : t ≡ tested_told (row_sound m) (replied_of (reply_of (row_in m) call))
+  pub answer : t ≡ tested_told (row_sound m) (told_of (reply_of (row_in m) call))
   pub next : m' ≡ cond (row_sound m) (memory_of (after (row_in m) call)) m
   pub says : (history : List Call) → m ≡ memory_of (row_after history) → RowSays history call t m'
 

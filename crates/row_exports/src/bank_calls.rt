@@ -9,10 +9,10 @@ ghost use Rattle.bank_theory.specs.BankPromise.{FreshBanks, bank_memory};
 ghost use Rattle.bank_theory.specs.declared.Gating.TheVariants.{Close, Cut, Open};
 ghost use Rattle.row_exports.specs.BanksTold.{BanksTold, OpenVictimTold, BanksSoundTold};
 
-use crate::telling::{tell_reply, tell_test, tell_victim, unsound};
+use crate::telling::{tell_reply, tell_test, tell_victim};
 use bank_theory::Gating;
 use row_theory::{Event, PerFrame, PerSlot};
-use rules::{Bank, Frame, byte_of};
+use rules::{Bank, Frame, Refusal, byte_of, tell};
 
 // One of the five frame calls, told in numbers.
 fn call(
@@ -31,7 +31,7 @@ fn call(
         (bank_memory (memory slots.new places.new states.new front.new held.new) gates.now) }
 {
     if !banks::sound(slots, places, states, *front, *held, gates) {
-        return unsound(value);
+        return tell(Err(Refusal::Unsound), value);
     }
     let reply = banks::call(
         slots,
@@ -63,7 +63,7 @@ fn gate(
         (bank_memory (memory slots.new places.new states.new front.new held.new) gates.new) }
 {
     if !banks::sound(slots, places, states, *front, *held, gates) {
-        return unsound(value);
+        return tell(Err(Refusal::Unsound), value);
     }
     let reply = banks::gate(
         slots,
@@ -343,7 +343,7 @@ pub extern "C" fn musselrung_banks_victim_parts(
         let victim = banks::victim(slots, states, gates, front, held);
         return tell_victim(victim, value);
     }
-    unsound(value)
+    tell(Err(Refusal::Unsound), value)
 }
 
 // 1 if these are banks and a row that fresh ones and calls give, else 0.
@@ -359,6 +359,5 @@ pub extern "C" fn musselrung_banks_sound_parts(
     ensures { BanksSoundTold
         (bank_memory (memory slots.now places.now states.now front held) gates.now) result }
 {
-    let passes = banks::sound(slots, places, states, front, held, gates);
-    tell_test(passes)
+    tell_test(banks::sound(slots, places, states, front, held, gates))
 }

@@ -5,9 +5,9 @@ ghost use Rattle.row_theory.specs.Promise.{FreshRow, asked, memory};
 ghost use Rattle.row_theory.specs.declared.Event.TheVariants.{Put, Touch, Start, End, Drop};
 ghost use Rattle.row_exports.specs.RowTold.{RowTold, VictimTold, RowSoundTold};
 
-use crate::telling::{tell_reply, tell_test, tell_victim, unsound};
+use crate::telling::{tell_reply, tell_test, tell_victim};
 use row_theory::{Event, PerFrame, PerSlot};
-use rules::{Frame, byte_of};
+use rules::{Frame, Refusal, byte_of, tell};
 
 // One of the five calls, told in numbers.
 fn call(
@@ -24,7 +24,7 @@ fn call(
         (memory slots.new places.new states.new front.new held.new) }
 {
     if !row::sound(slots, places, states, *front, *held) {
-        return unsound(value);
+        return tell(Err(Refusal::Unsound), value);
     }
     let reply = row::call(
         slots,
@@ -181,7 +181,7 @@ pub extern "C" fn musselrung_row_victim_parts(
         let victim = row::victim(slots, states, front, held);
         return tell_victim(victim, value);
     }
-    unsound(value)
+    tell(Err(Refusal::Unsound), value)
 }
 
 // 1 if this is a row that a fresh row and calls give, else 0.
@@ -195,6 +195,5 @@ pub extern "C" fn musselrung_row_sound_parts(
 ) -> u32
     ensures { RowSoundTold (memory slots.now places.now states.now front held) result }
 {
-    let passes = row::sound(slots, places, states, front, held);
-    tell_test(passes)
+    tell_test(row::sound(slots, places, states, front, held))
 }

@@ -1,51 +1,23 @@
 // Answers told in numbers: one that is handed back and one that is written into lent memory.
 ghost use Rattle.std.specs.Prelude.{◌≡◌};
 ghost use Rattle.rules.specs.Lists.{one};
-ghost use Rattle.rules.specs.Refusals.{unsound as «unsound_number»};
-ghost use Rattle.rules.specs.Told.{told};
-ghost use Rattle.row_exports.specs.Told.{replied_of, chosen_of};
+ghost use Rattle.rules.specs.Told.{told, told_of};
+ghost use Rattle.row_exports.specs.Told.{chosen_of};
 
-use row_theory::{Reply, Victim};
-use rules::UNSOUND;
+use rules::{Frame, Refusal, tell};
 
-// A reply: 0 and the slots examined, or the refusal's number and place.
-pub(crate) fn tell_reply(reply: Reply, value: &mut usize) -> u32
-    ensures { told result value.new ≡ replied_of reply }
+// A reply: 0 and the slots examined, or the refusal.
+pub(crate) fn tell_reply(reply: Result<u8, Refusal>, value: &mut usize) -> u32
+    ensures { told result value.new ≡ told_of reply }
 {
-    match reply {
-        Reply::Done(n) => {
-            *value = n as usize;
-            0
-        }
-        Reply::Refused(r) => {
-            *value = r.place;
-            r.number as u32
-        }
-    }
+    tell(reply.map(|examined| usize::from(examined)), value)
 }
 
-// A victim: 0 and the frame, or the refusal's number and place.
-pub(crate) fn tell_victim(victim: Victim, value: &mut usize) -> u32
+// A victim: 0 and the frame, or the refusal.
+pub(crate) fn tell_victim(victim: Result<Frame, Refusal>, value: &mut usize) -> u32
     ensures { told result value.new ≡ chosen_of victim }
 {
-    match victim {
-        Victim::Given(f) => {
-            *value = f.0 as usize;
-            0
-        }
-        Victim::Refused(none) => {
-            *value = none.place;
-            none.number as u32
-        }
-    }
-}
-
-// Memory that fails its test (rule R40): 40, and place 0.
-pub(crate) fn unsound(value: &mut usize) -> u32
-    ensures { told result value.new ≡ told «unsound_number» 0 }
-{
-    *value = 0;
-    UNSOUND as u32
+    tell(victim.map(|frame| usize::from(frame.0)), value)
 }
 
 // A test: 1 where it passes, 0 where it fails.
@@ -53,8 +25,5 @@ pub(crate) fn unsound(value: &mut usize) -> u32
 pub(crate) fn tell_test(passes: bool) -> u32
     ensures { result ≡ one passes }
 {
-    if passes {
-        return 1;
-    }
-    0
+    u32::from(passes)
 }

@@ -1,14 +1,17 @@
 -- What holds of any answer that meets a promise (docs/RULES.md, D1, A1, A3): a refusal changes nothing, and two answers to
 -- one call are equal.
-use Rattle.std.specs.Prelude.{ℕ, ◌<◌, ◌≡◌, Bool, false, List, leb, ltb}
+use Rattle.std.specs.Prelude.{ℕ, ◌<◌, ◌≡◌, Bool, false, List, ltb, Result}
 use Rattle.std.proofs.Common.{arith, sym, ◌∙◌}
 use Rattle.std.proofs.Math.Path.{ap}
 use Rattle.std.proofs.Math.Dec.{eqb}
 use Rattle.std.proofs.Math.ListN.{get_or-eq_default}
-use borrow.Author.Tests.{leb-false, ltb-false, ne_eqb}
+use borrow.Author.Tests.{ltb-false, ne_eqb}
 use Rattle.rules.specs.Limits.{frames}
+use Rattle.rules.specs.declared.Frame.{Frame}
+use Rattle.rules.specs.declared.refusal.Refusal.{Refusal}
 use Rattle.rules.specs.Cases.{by_cases}
-use Rattle.row_theory.specs.States.{Call, absent, busy, state_of, verdict_of, refusal_of, accepts}
+use Rattle.row_theory.specs.States.{Call, absent, state_of, verdict_of, refusal_of, accepts}
+use Rattle.row_theory.specs.StateLaws.{number_ok}
 use Rattle.row_theory.specs.Row.{Row, reply_number, reply_place}
 use Rattle.row_theory.specs.History.{states_after}
 use Rattle.row_theory.specs.Runs.{row_after}
@@ -16,17 +19,14 @@ use Rattle.row_theory.specs.Promise.{Memory, row_in, Stands, Answered, FreshRow,
 use Rattle.row_theory.proofs.PromiseLaws.{number_of_reply, place_of_reply, same_memory}
 use Rattle.row_theory.proofs.GoodStates.{good_after}
 use Rattle.row_theory.proofs.SoundRow.{sound_after, after_refused}
-use Rattle.row_theory.specs.declared.Reply.{Reply}
-use Rattle.row_theory.specs.declared.Victim.{Victim}
 
-module _ {m m' : Memory} {call : Call} {reply : Reply} where
+module _ {m m' : Memory} {call : Call} {reply : Result ℕ Refusal} where
   -- O6: a reply's number is 0 exactly where the call is accepted
   pub number_accepts : Answered m call reply m' → eqb (reply_number reply) 0 ≡ accepts m.states call
   unfolding refusal_of accepts
   number_accepts met =
       ap (λ (n : ℕ). eqb n 0) (ap reply_number met.answer ∙ number_of_reply (row_in m) call) ∙
-      by_cases (leb (verdict_of m.states call) busy) (λ e. rw e)
-      (λ e. rw e (ne_eqb (verdict_of m.states call) 0 (λ zero. omega (arith, leb-false (verdict_of m.states call) busy e))))
+      number_ok (verdict_of m.states call)
 
   -- A1: its place is 0
   pub reply_place_law : Answered m call reply m' → reply_place reply ≡ 0
@@ -40,7 +40,7 @@ module _ {m m' : Memory} {call : Call} {reply : Reply} where
       same_memory (met.next ∙ after_refused (row_in m) call no) met.stands stands
 
 -- two answers to one call, two fresh rows, two victims
-pub answered_once : {m m₁ m₂ : Memory} {call : Call} {reply₁ reply₂ : Reply} → Answered m call reply₁ m₁ →
+pub answered_once : {m m₁ m₂ : Memory} {call : Call} {reply₁ reply₂ : Result ℕ Refusal} → Answered m call reply₁ m₁ →
     Answered m call reply₂ m₂ → (reply₁ ≡ reply₂) × (m₁ ≡ m₂)
 answered_once one two =
     (one.answer ∙ sym two.answer, same_memory (one.next ∙ sym two.next) one.stands two.stands)
@@ -48,7 +48,7 @@ answered_once one two =
 pub fresh_row_once : {m₁ m₂ : Memory} → FreshRow m₁ → FreshRow m₂ → m₁ ≡ m₂
 fresh_row_once one two = same_memory (one.whole ∙ sym two.whole) one.stands two.stands
 
-pub oldest_idle_once : {row : Row} {may : ℕ → Bool} {victim₁ victim₂ : Victim} → OldestIdle row may victim₁ →
+pub oldest_idle_once : {row : Row} {may : ℕ → Bool} {victim₁ victim₂ : Result Frame Refusal} → OldestIdle row may victim₁ →
     OldestIdle row may victim₂ → victim₁ ≡ victim₂
 oldest_idle_once one two = one.answer ∙ sym two.answer
 

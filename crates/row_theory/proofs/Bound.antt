@@ -11,6 +11,7 @@ use Rattle.row_theory.specs.Slots.{front_then, examined_then}
 use Rattle.row_theory.specs.Row.{Row, empty_row, moved, reply_of, examined_of}
 use Rattle.row_theory.specs.History.{states_after, moves_last, moves_after}
 use Rattle.row_theory.specs.Runs.{row_after, examined_after}
+use Rattle.row_theory.specs.StateLaws.{accepted, rejected}
 use Rattle.row_theory.specs.Holding.{spare}
 use Rattle.row_theory.specs.StepLaws.{spare_then, slot_step, front_stays, front_falls}
 use Rattle.row_theory.proofs.GoodStates.{good_after}
@@ -35,11 +36,11 @@ paid_squeeze x k f x' k' f' paid e₀ e₁ e₂ room =
 examined_accepted : (row : Row) (call : Call) → accepts row.states call ≡ true →
     examined_of (reply_of row call) ≡ examined_then call.event row.front
 unfolding reply_of
-examined_accepted row call e = rw e
+examined_accepted row call e = rw (accepted row.states call e).next
 
 examined_refused : (row : Row) (call : Call) → accepts row.states call ≡ false → examined_of (reply_of row call) ≡ 0
 unfolding reply_of
-examined_refused row call e = rw e
+examined_refused row call e = rw (rejected row.states call e).is
 
 -- W5: exactly an accepted put or touch that finds the front at 0 examines slots, and then 64
 pub examined_rule : (row : Row) (call : Call) →

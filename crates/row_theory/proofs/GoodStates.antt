@@ -1,15 +1,15 @@
 -- The states of frames after any calls (docs/RULES.md, W6, L5): one for each frame, each of the three, at most 32 frames held.
 use Rattle.std.specs.Prelude.{ℕ, zero, suc, ◌+◌, ◌<◌, ◌≤◌, ◌≡◌, refl, true, false, List, [], ◌∷◌, eqb, length, get_or, set}
-use Rattle.std.specs.Prelude.{replicate}
-use Rattle.std.proofs.Common.{zero-le, arith, ap, length-set, get_or-set_same, get_or-set_other, eqb-true}
+use Rattle.std.specs.Prelude.{replicate, Ok}
+use Rattle.std.proofs.Common.{zero-le, arith, sym, ◌∙◌, ap, length-set, get_or-set_same, get_or-set_other, eqb-true}
 use Rattle.std.proofs.lemmas.List.{length-replicate}
 use Rattle.std.proofs.lemmas.Bool.{eqb-false}
 use Rattle.rules.specs.Limits.{frames, held}
 use Rattle.rules.specs.Cases.{by_cases}
-use Rattle.row_theory.specs.States.{Call, absent, busy, state_of, cell_of, held_bit, held_in, is_put, accepts, states_then}
+use Rattle.row_theory.specs.States.{Call, absent, busy, table_at, state_of, held_bit, held_in, is_put, accepts, states_then}
 use Rattle.row_theory.specs.States.{fresh_states}
 use Rattle.row_theory.specs.History.{states_after}
-use Rattle.row_theory.specs.StateLaws.{Effect, effect, busy_stays, accepted, held_in_set, bit_before, bit_later}
+use Rattle.row_theory.specs.StateLaws.{Effect, effect, busy_stays, accepted, rejected, held_in_set, bit_before, bit_later}
 use Rattle.row_theory.specs.declared.Event.{Event}
 use Rattle.row_theory.specs.declared.Event.TheVariants.{Put, Touch, Start, End, Drop}
 
@@ -31,37 +31,39 @@ held_in_absent (suc n) = omega (arith, held_in_absent n)
 
 pub states_refused : (states : List ℕ) (call : Call) → accepts states call ≡ false → states_then states call ≡ states
 unfolding states_then
-states_refused states call e = rw e
+states_refused states call e = rw (rejected states call e).is
 
--- an accepted call stores the table's entry at its frame
+-- an accepted call stores the next state at its frame
 module _ (states : List ℕ) (call : Call) (good : GoodStates states) (ok : accepts states call ≡ true) where
+  abbrev next : ℕ
+  next = (accepted states call ok).state
+
   inside : call.frame < length states
   inside = omega (arith, (accepted states call ok).small, good.long)
 
-  stored : states_then states call ≡ set states call.frame (cell_of states call)
+  stored : states_then states call ≡ set states call.frame next
   unfolding states_then
-  stored = rw (ok, (accepted states call ok).next)
+  stored = rw (accepted states call ok).next
 
-  pub state_same : state_of (states_then states call) call.frame ≡ cell_of states call
-  state_same = rw stored (get_or-set_same states call.frame (cell_of states call) absent inside)
+  pub state_same : state_of (states_then states call) call.frame ≡ next
+  state_same = rw stored (get_or-set_same states call.frame next absent inside)
 
   pub state_other : (frame : ℕ) → (frame ≡ call.frame → ⊥) → state_of (states_then states call) frame ≡ state_of states frame
-  state_other frame ne = rw stored (get_or-set_other states call.frame frame (cell_of states call) absent ne)
+  state_other frame ne = rw stored (get_or-set_other states call.frame frame next absent ne)
 
   -- what it does to the held bit of its frame, and to the number held
-  pub call_effect : Effect (bit_before call.event) (bit_later call.event) (state_of states call.frame) (cell_of states call)
-  call_effect =
-      effect call.event (state_of states call.frame) (good.known call.frame) (accepted states call ok).allowed
+  pub call_effect : Effect (bit_before call.event) (bit_later call.event) (state_of states call.frame) next
+  call_effect = effect call.event (state_of states call.frame) (good.known call.frame) (accepted states call ok).allowed
 
   pub held_then : held_in (states_then states call) + bit_before call.event ≡ held_in states + bit_later call.event
   held_then =
-      let bits = held_in_set states call.frame (cell_of states call) inside in
+      let bits = held_in_set states call.frame next inside in
       rw stored (omega (arith, bits, call_effect.was, call_effect.becomes))
 
   known_then : (frame : ℕ) → state_of (states_then states call) frame ≤ busy
   known_then frame =
       by_cases (eqb frame call.frame)
-      (λ e. rw (eqb-true frame call.frame e, state_same) (accepted states call ok).allowed)
+      (λ e. rw (eqb-true frame call.frame e, state_same) (accepted states call ok).known)
       (λ e. rw (state_other frame (eqb-false frame call.frame e)) (good.known frame))
 
   -- D1: a busy frame is not absent after it
@@ -69,7 +71,9 @@ module _ (states : List ℕ) (call : Call) (good : GoodStates states) (ok : acce
   busy_then frame is_busy gone =
       by_cases (eqb frame call.frame)
       (λ e. let same : frame ≡ call.frame = eqb-true frame call.frame e in
-      busy_stays call.event (rw (same, state_same, ← same, is_busy) at gone))
+      let here : state_of states call.frame ≡ busy = rw same at is_busy in
+      let left : next ≡ absent = sym state_same ∙ rw same at gone in
+      busy_stays call.event (ap (λ (s : ℕ). table_at s call.event) (sym here) ∙ (accepted states call ok).allowed ∙ ap Ok left))
       (λ e. omega (arith, state_other frame (eqb-false frame call.frame e)))
 
 few_then : (states : List ℕ) (event : Event) (n : ℕ) → held_in states ≤ held → (is_put event ≡ true → held_in states < held) →

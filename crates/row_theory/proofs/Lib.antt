@@ -21,6 +21,7 @@ pub mod RebuildCalls
 pub mod RebuildSteps
 pub mod Rebuilt
 pub mod TestStepLaws
+pub mod TestCountLaws
 pub mod Sums
 pub mod TestPartLaws
 pub mod TestTidy
@@ -31,3 +32,4 @@ pub mod LendingLaws
 pub mod ShiftLaws
 pub mod CallLaws
 pub mod Scan
+pub mod SlotBySlot

@@ -1,9 +1,13 @@
 -- The promises follow from their equations.
-use Rattle.std.specs.Prelude.{ℕ, ◌≡◌, Bool, List, [], ◌∷◌}
+use Rattle.std.specs.Prelude.{ℕ, ◌≡◌, refl, Bool, List, [], ◌∷◌, Result, Ok, Err, IfErr}
+use Rattle.std.specs.Result.{result_and}
 use Rattle.std.proofs.Common.{sym, ◌∙◌, ap, subst, subst₂}
-use Rattle.rules.specs.Cases.{by_cases}
-use Rattle.row_theory.specs.States.{Call, refusal_of, accepts}
-use Rattle.row_theory.specs.Slots.{places_in}
+use Rattle.rules.specs.Refusals.{refusal_place}
+use Rattle.rules.specs.declared.Frame.{Frame}
+use Rattle.rules.specs.declared.refusal.Refusal.{Refusal}
+use Rattle.row_theory.specs.States.{Call, number_in, verdict_of, refusal_of}
+use Rattle.row_theory.specs.Slots.{places_in, examined_then}
+use Rattle.row_theory.specs.StateLaws.{verdict_placeless}
 use Rattle.row_theory.specs.Row.{Row, empty_row, after, reply_of, reply_number, reply_place, victim_among}
 use Rattle.row_theory.specs.History.{states_after, moment_after}
 use Rattle.row_theory.specs.Runs.{row_after, Reached}
@@ -11,17 +15,24 @@ use Rattle.row_theory.specs.Promise.{Memory, row_in, Stands, ReplySays, Answered
 use Rattle.row_theory.proofs.GoodStates.{GoodStates, good_after}
 use Rattle.row_theory.proofs.SoundRow.{Sound, sound_after}
 use Rattle.row_theory.proofs.Theorems.{victim_says}
-use Rattle.row_theory.specs.declared.Reply.{Reply}
-use Rattle.row_theory.specs.declared.Victim.{Victim}
 
 -- A1: the number and the place of what a call answers
+number_then : (v : Result ℕ Refusal) (n : ℕ) → reply_number (result_and v (Ok n)) ≡ number_in v
+number_then (Ok next) n = refl
+number_then (Err r) n = refl
+
 pub number_of_reply : (row : Row) (call : Call) → reply_number (reply_of row call) ≡ refusal_of row.states call
 unfolding reply_of refusal_of
-number_of_reply row call = by_cases (accepts row.states call) (λ e. rw e) (λ e. rw e)
+number_of_reply row call = number_then (verdict_of row.states call) (examined_then call.event row.front)
+
+place_then : (v : Result ℕ Refusal) (n : ℕ) → IfErr v (λ r. refusal_place r ≡ 0) → reply_place (result_and v (Ok n)) ≡ 0
+place_then (Ok next) n none = refl
+place_then (Err r) n none = none
 
 pub place_of_reply : (row : Row) (call : Call) → reply_place (reply_of row call) ≡ 0
 unfolding reply_of
-place_of_reply row call = by_cases (accepts row.states call) (λ e. rw e) (λ e. rw e)
+place_of_reply row call =
+    place_then (verdict_of row.states call) (examined_then call.event row.front) (verdict_placeless row.states call)
 
 -- what it says of any history that gives the row
 reply_says : (history : List Call) (row : Row) (call : Call) → row_after history ≡ row →
@@ -36,8 +47,9 @@ reply_says history row call gives =
     }
 
 -- a call that answers and leaves what the definitions say keeps its promise
-pub answered : {m : Memory} {call : Call} {reply : Reply} {m' : Memory} → Reached (row_in m) → reply ≡ reply_of (row_in m) call →
-    row_in m' ≡ after (row_in m) call → m'.places ≡ places_in m'.slots → Answered m call reply m'
+pub answered : {m : Memory} {call : Call} {reply : Result ℕ Refusal} {m' : Memory} → Reached (row_in m) →
+    reply ≡ reply_of (row_in m) call → row_in m' ≡ after (row_in m) call → m'.places ≡ places_in m'.slots →
+    Answered m call reply m'
 unfolding row_after
 answered {m} {call} {reply} {m'} reached answer next index =
     let longer : row_after (call ∷ reached.history) ≡ row_in m' = ap (λ (r : Row). after r call) reached.gives ∙ sym next in
@@ -65,7 +77,8 @@ unfolding row_after
 fresh_row_law whole index =
     record { whole = whole; stands = record { reached = record { history = []; gives = sym whole }; index = index } }
 
-pub oldest_idle : {row : Row} {may : ℕ → Bool} {victim : Victim} → victim ≡ victim_among may row → OldestIdle row may victim
+pub oldest_idle : {row : Row} {may : ℕ → Bool} {victim : Result Frame Refusal} → victim ≡ victim_among may row →
+    OldestIdle row may victim
 oldest_idle {row} {may} {victim} answer =
     record { answer = answer; says = λ history gives. rw (answer, ← gives) (victim_says history may) }
 

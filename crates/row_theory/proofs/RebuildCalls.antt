@@ -1,12 +1,12 @@
 -- What a put, a start and a drop that are accepted make of a row, as equations of its parts (docs/RULES.md, W2, W4, W6).
-use Prim.Native.Nat.{ℕ, suc, ◌-◌, ◌<◌, ◌≤◌}
+use Prim.Native.Nat.{ℕ, suc, ◌-◌, ◌<◌}
 use native.Mathlib.Omega.{arith}
-use Rattle.std.specs.Prelude.{◌≡◌, true, List, ◌∷◌, length, get_or}
+use Rattle.std.specs.Prelude.{◌≡◌, true, List, ◌∷◌, length, get_or, Ok}
 use Rattle.std.proofs.Common.{sym, ◌∙◌, ap, length-set, get_or-set_same, get_or-set_other, ext_get_or}
 use Rattle.std.proofs.Math.Bool.{false}
 use Rattle.std.proofs.Math.Dec.{eqb}
 use Rattle.std.proofs.Math.ListN.{set}
-use borrow.Author.Tests.{ne_eqb, eqb-true, eqb-false, lt-leb, le-leb}
+use borrow.Author.Tests.{ne_eqb, eqb-true, eqb-false, lt-leb}
 use Rattle.rules.specs.Limits.{frames}
 use Rattle.rules.specs.Limits
 use Rattle.rules.specs.Cases.{by_cases}
@@ -40,26 +40,22 @@ pub record Takes (states : List ℕ) (event : Event) (frame next : ℕ) : Type 0
   pub ok : accepts states (asked event frame) ≡ true
   pub then : states_then states (asked event frame) ≡ set states frame next
 
-takes : (states : List ℕ) (event : Event) (frame next : ℕ) → verdict_of states (asked event frame) ≡ next → next ≤ busy →
+takes : (states : List ℕ) (event : Event) (frame next : ℕ) → verdict_of states (asked event frame) ≡ Ok next →
     Takes states event frame next
 unfolding accepts states_then
-takes states event frame next is low =
-    let ok : accepts states (asked event frame) ≡ true = rw is (le-leb next busy low) in
-    record { ok = ok; then = rw (ok, is) }
+takes states event frame next is = record { ok = rw is; then = rw is }
 
 module _ (states : List ℕ) (frame : ℕ) (small : frame < frames) where
   pub put_takes : state_of states frame ≡ absent → held_in states < Limits.held → Takes states Put frame idle
   put_takes is room =
       takes states Put frame idle
-      (unfold verdict_of table_at in rw (lt-leb frames frame small, is, lt-leb Limits.held (held_in states) room)) (omega arith)
+      (unfold verdict_of table_at in rw (lt-leb frames frame small, is, lt-leb Limits.held (held_in states) room))
 
   pub start_takes : state_of states frame ≡ idle → Takes states Start frame busy
-  start_takes is =
-      takes states Start frame busy (unfold verdict_of table_at in rw (lt-leb frames frame small, is)) (omega arith)
+  start_takes is = takes states Start frame busy (unfold verdict_of table_at in rw (lt-leb frames frame small, is))
 
   pub drop_takes : state_of states frame ≡ idle → Takes states Drop frame absent
-  drop_takes is =
-      takes states Drop frame absent (unfold verdict_of table_at in rw (lt-leb frames frame small, is)) (omega arith)
+  drop_takes is = takes states Drop frame absent (unfold verdict_of table_at in rw (lt-leb frames frame small, is))
 
 -- what each of the three calls makes of a row
 module _ (slots states : List ℕ) (front held frame : ℕ) where

@@ -1,24 +1,26 @@
--- Looking for the oldest idle frame with a mark from the last slot down (docs/RULES.md, W7).
-use Rattle.std.specs.Prelude.{ℕ, zero, suc, ◌-◌, ◌<◌, ◌≤◌, ◌≡◌, refl, Bool, false, cond, List, [], ◌∷◌, ltb, eqb, length}
-use Rattle.std.specs.Prelude.{get_or, drop}
-use Rattle.std.proofs.Common.{suc-le-suc, zero-le, le_refl, arith, ◌∙◌, ap, drop_of_length-le, drop-cons}
-use Rattle.std.proofs.Math.Bool.{true, and-false}
+-- Looking for the oldest idle frame with a mark, from the last slot down to the front (docs/RULES.md, W7).
+use Rattle.std.specs.Prelude.{ℕ, zero, suc, ◌-◌, ◌<◌, ◌≤◌, ◌≡◌, refl, Bool, cond, List, [], ◌∷◌, eqb, get_or, take, drop}
+use Rattle.std.specs.Prelude.{reverse, find, Option, Some, None, Result, Ok, Err}
+use Rattle.std.specs.Option.{option_or}
+use Rattle.std.proofs.Common.{suc-le-suc, zero-le, le_refl, arith, ◌∙◌, subst, take_all, length-drop}
+use Rattle.std.proofs.lemmas.List.{reverse-append}
+use Rattle.std.proofs.lemmas.List.Folds.{find-append}
 use borrow.Author.Tests.{lt-ltb, le-ltb, eq-eqb, ne_eqb}
 use Rattle.rules.specs.Limits.{frames, slots}
-use Rattle.rules.specs.Refusals.{nothing_held, all_busy}
+use Rattle.rules.specs.declared.Frame.{Frame}
+use Rattle.rules.specs.declared.refusal.Refusal.{Refusal}
+use Rattle.rules.specs.declared.refusal.Refusal.TheVariants.{NothingHeld, AllBusy}
 use Rattle.rules.specs.Cases.{by_cases}
 use Rattle.row_theory.specs.States.{idle}
 use Rattle.row_theory.specs.Slots.{Clear, empty, passes, oldest}
-use Rattle.row_theory.specs.Row.{Row, any_frame, givable, has_mark, idle_among, victim_among}
-use Rattle.row_theory.proofs.Oldest.{oldest_behind, oldest_here, oldest_skip, oldest_same, passes_empty}
+use Rattle.row_theory.specs.Row.{Row, any_frame, has_mark, idle_among, victim_among}
+use Rattle.row_theory.proofs.Oldest.{oldest_behind, oldest_here, oldest_skip, oldest_not, oldest_same, passes_frame, passes_empty}
 use Rattle.row_theory.specs.Promise.{row_with, OldestIdle}
 use Rattle.row_theory.proofs.PromiseLaws.{ordered, oldest_idle}
 use Rattle.row_theory.specs.Runs.{Reached}
-use Rattle.row_theory.specs.declared.Victim.{Victim}
-use Rattle.row_theory.specs.declared.Victim.TheVariants.{Given, Refused}
 
 -- what stands ahead of a frame that passes does not matter
-oldest_drop : (may : ℕ → Bool) (row : List ℕ) (i : ℕ) → oldest may (drop i row) < frames →
+pub oldest_drop : (may : ℕ → Bool) (row : List ℕ) (i : ℕ) → oldest may (drop i row) < frames →
     oldest may row ≡ oldest may (drop i row)
 oldest_drop may [] zero h = refl
 oldest_drop may (x ∷ row) zero h = refl
@@ -28,7 +30,8 @@ oldest_drop may (x ∷ row) (suc i) h =
     oldest_behind may x row (omega arith) ∙ later
 
 -- nor do empty slots
-oldest_clear : (may : ℕ → Bool) (row : List ℕ) (i : ℕ) → Clear i row → frames ≤ oldest may (drop i row) → frames ≤ oldest may row
+pub oldest_clear : (may : ℕ → Bool) (row : List ℕ) (i : ℕ) → Clear i row → frames ≤ oldest may (drop i row) →
+    frames ≤ oldest may row
 oldest_clear may [] zero clear h = h
 oldest_clear may (x ∷ row) zero clear h = h
 oldest_clear may [] (suc i) clear h = h
@@ -38,98 +41,79 @@ oldest_clear may (x ∷ row) (suc i) clear h =
     (oldest_clear may row i (λ j below. clear (suc j) (suc-le-suc below)) h)
 
 -- may the frame be given up by these states and marks?
-abbrev marked_idle : List ℕ → List ℕ → ℕ → Bool
+abbrev pub marked_idle : List ℕ → List ℕ → ℕ → Bool
 marked_idle states marks = idle_among (has_mark marks) states
 
--- no frame that may be given up from this slot on
-pub record Looked (states marks row : List ℕ) (i : ℕ) : Type 0 where
-  pub inside : i ≤ slots
-  pub none : frames ≤ oldest (marked_idle states marks) (drop i row)
+-- what is found from the last of these slots down
+abbrev Finds : (ℕ → Bool) → List ℕ → Option ℕ → Type 0
+Finds may row (Some frame) = (oldest may row ≡ frame) × (frame < frames)
+Finds may row None = frames ≤ oldest may row
 
-nothing : (may : ℕ → Bool) → frames ≤ oldest may []
-unfolding oldest
-nothing may = le_refl frames
+-- one slot more, ahead of the others
+finds_ahead : (may : ℕ → Bool) (x : ℕ) (row : List ℕ) (later : Option ℕ) → Finds may row later →
+    Finds may (x ∷ row) (option_or later (find (passes may) (x ∷ [])))
+finds_ahead may x row (Some frame) found =
+    let is : oldest may row ≡ frame = found.0 in
+    (oldest_behind may x row (omega (arith, found.1)) ∙ is, found.1)
+finds_ahead may x row None none =
+    by_cases (passes may x) (λ e. rw e (oldest_here may x row none e, passes_frame may x e))
+    (λ e. rw e (omega (arith, oldest_not may x row none e)))
 
-pub look_start : {states marks row : List ℕ} → length row ≡ slots → Looked states marks row slots
-look_start {states} {marks} {row} long =
-    let ended : drop slots row ≡ [] = drop_of_length-le row {i = slots} (omega arith) in
-    record { inside = le_refl slots; none = rw ended (nothing (marked_idle states marks)) }
+finds : (may : ℕ → Bool) (row : List ℕ) → Finds may row (find (passes may) (reverse row))
+finds may [] = unfold oldest in le_refl frames
+finds may (x ∷ row) =
+    rw (reverse-append (x ∷ []) row, find-append (passes may) (reverse row) (x ∷ []))
+    (finds_ahead may x row (find (passes may) (reverse row)) (finds may row))
 
--- the slot before, and the slots from it on
-from_slot : (row : List ℕ) (j : ℕ) → 0 < j → j ≤ length row → drop (j - 1) row ≡ get_or row (j - 1) 0 ∷ drop j row
-from_slot row j some inside =
-    let next : suc (j - 1) ≡ j = omega arith in
-    drop-cons row (j - 1) 0 (omega arith) ∙ ap (λ (n : ℕ). get_or row (j - 1) 0 ∷ drop n row) next
+pub look_inside : {row : Row} → Reached row → row.front ≤ slots
+look_inside reached = (ordered reached).sound.fits.inside
 
--- one slot down: its frame passes, or there is none
-module _ {states marks row : List ℕ} {j : ℕ} (long : length row ≡ slots) (looked : Looked states marks row j) (some : 0 < j) where
-  abbrev here : ℕ
-  here = get_or row (j - 1) 0
+-- looking from the last slot down to the front
+module _ (marks : List ℕ) {states row : List ℕ} {front held : ℕ} (reached : Reached (row_with row states front held)) where
+  abbrev may : ℕ → Bool
+  may = marked_idle states marks
 
-  look_past : passes (marked_idle states marks) here ≡ false → Looked states marks row (j - 1)
-  look_past stays =
-      let slot = from_slot row j some (omega (arith, looked.inside)) in
-      record {
-        inside = omega (arith, looked.inside);
-        none = rw (slot, oldest_skip (marked_idle states marks) here (drop j row) stays) looked.none;
-      }
+  abbrev found : Option ℕ
+  found = find (passes may) (reverse (take (slots - front) (drop front row)))
 
-  -- the slot holds no frame, one that is not idle, or one without the mark
-  pub look_past_empty : frames ≤ here → Looked states marks row (j - 1)
-  look_past_empty none = look_past (passes_empty (marked_idle states marks) here none)
+  all_of_them : take (slots - front) (drop front row) ≡ drop front row
+  all_of_them =
+      take_all (slots - front) (drop front row) (omega (arith, length-drop front row, (ordered reached).sound.fits.long))
 
-  pub look_past_state : (get_or states here 0 ≡ idle → ⊥) → Looked states marks row (j - 1)
-  unfolding passes idle_among
-  look_past_state ne = look_past (rw (ne_eqb (get_or states here 0) idle ne) (and-false (ltb here frames)))
+  here : {o : Option ℕ} → found ≡ o → Finds may (drop front row) o
+  here e = subst (Finds may (drop front row)) (rw (← all_of_them) e) (finds may (drop front row))
 
-  pub look_past_mark : (get_or marks here 0 ≡ givable → ⊥) → Looked states marks row (j - 1)
-  unfolding passes idle_among has_mark
-  look_past_mark ne =
-      look_past
-      (rw (ne_eqb (get_or marks here 0) givable ne, and-false (eqb (get_or states here 0) idle)) (and-false (ltb here frames)))
-
-  -- the slot holds an idle frame with the mark: that is the victim
-  pub look_found : {front held : ℕ} → here < frames → get_or states here 0 ≡ idle → get_or marks here 0 ≡ givable →
-      OldestIdle (row_with row states front held) (has_mark marks) (Given (record { 0 = here }))
-  unfolding victim_among passes idle_among has_mark
-  look_found small isIdle mark =
-      let may = marked_idle states marks in
-      let passing : passes may here ≡ true = rw (lt-ltb here frames small, isIdle, mark) in
-      let slot = from_slot row j some (omega (arith, looked.inside)) in
-      let there : oldest may (drop (j - 1) row) ≡ here = rw slot (oldest_here may here (drop j row) looked.none passing) in
-      let whole : oldest may row ≡ here = oldest_drop may row (j - 1) (omega arith) ∙ there in
-      oldest_idle (rw (whole, lt-ltb here frames small))
-
--- no slot from the front on holds such a frame: there is none
-module _ {states marks row : List ℕ} {front held i : ℕ} (reached : Reached (row_with row states front held))
-    (looked : Looked states marks row i) (low : i ≤ front) where
-  none_there : frames ≤ oldest (marked_idle states marks) row
-  none_there =
-      oldest_clear (marked_idle states marks) row i (λ j below. (ordered reached).sound.fits.clear j (omega arith)) looked.none
-
-  refused : (number : ℕ) → cond (eqb held 0) nothing_held all_busy ≡ number →
-      OldestIdle (row_with row states front held) (has_mark marks) (Refused (record { number = number; place = 0 }))
+  -- a frame is found: that is the victim
+  pub look_found : {frame : ℕ} → found ≡ Some frame →
+      OldestIdle (row_with row states front held) (has_mark marks) (Ok (record { 0 = frame }))
   unfolding victim_among
-  refused number e = oldest_idle (rw (le-ltb (oldest (marked_idle states marks) row) frames none_there, e))
+  look_found {frame} e =
+      let at : oldest may (drop front row) ≡ frame = (here e).0 in
+      let small : frame < frames = (here e).1 in
+      let whole : oldest may row ≡ frame = oldest_drop may row front (omega arith) ∙ at in
+      oldest_idle (rw (whole, lt-ltb frame frames small))
 
-  pub look_nothing : held ≡ 0 →
-      OldestIdle (row_with row states front held) (has_mark marks) (Refused (record { number = nothing_held; place = 0 }))
-  look_nothing none = refused nothing_held (rw (eq-eqb held 0 none))
+  -- none is found: the slots below the front are empty, so there is none
+  none_there : found ≡ None → frames ≤ oldest may row
+  none_there e = oldest_clear may row front (ordered reached).sound.fits.clear (here e)
 
-  pub look_busy : (held ≡ 0 → ⊥) →
-      OldestIdle (row_with row states front held) (has_mark marks) (Refused (record { number = all_busy; place = 0 }))
-  look_busy some = refused all_busy (rw (ne_eqb held 0 some))
+  refused : found ≡ None → (r : Refusal) → cond (eqb held 0) NothingHeld AllBusy ≡ r →
+      OldestIdle (row_with row states front held) (has_mark marks) (Err r)
+  unfolding victim_among
+  refused none r e = oldest_idle (rw (le-ltb (oldest may row) frames (none_there none), e))
 
--- a row that calls give has all its slots
-pub reached_long : {row : Row} → Reached row → length row.slots ≡ slots
-reached_long reached = (ordered reached).sound.fits.long
+  pub look_nothing : found ≡ None → held ≡ 0 → OldestIdle (row_with row states front held) (has_mark marks) (Err NothingHeld)
+  look_nothing none nothing = refused none NothingHeld (rw (eq-eqb held 0 nothing))
+
+  pub look_busy : found ≡ None → (held ≡ 0 → ⊥) → OldestIdle (row_with row states front held) (has_mark marks) (Err AllBusy)
+  look_busy none some = refused none AllBusy (rw (ne_eqb held 0 some))
 
 -- all idle frames bear the mark where the states are the marks
 idle_marked : (states : List ℕ) (frame : ℕ) → idle_among (has_mark states) states frame ≡ idle_among any_frame states frame
 unfolding idle_among has_mark
 idle_marked states frame = by_cases (eqb (get_or states frame 0) idle) (λ e. rw e) (λ e. rw e)
 
-pub states_as_marks : {row : Row} {victim : Victim} → OldestIdle row (has_mark row.states) victim →
+pub states_as_marks : {row : Row} {victim : Result Frame Refusal} → OldestIdle row (has_mark row.states) victim →
     OldestIdle row any_frame victim
 unfolding victim_among
 states_as_marks {row} p =

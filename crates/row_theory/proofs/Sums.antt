@@ -1,7 +1,8 @@
 -- Sums over the frames: how many frames stand in the slots and how many are held, frame by frame. Where each frame stands at
 -- least as often as its state says, and as many stand as are held, each stands as often as its state says.
 use Rattle.std.specs.Prelude.{ℕ, zero, suc, ◌+◌, ◌<◌, ◌≤◌, ◌≡◌, refl, cond, List, [], ◌∷◌, ltb, eqb, length, get_or, take}
-use Rattle.std.proofs.Common.{le_refl, arith, ◌∙◌, ap, eqb-true, lt-ltb, le-ltb, ltb-true, ltb-false}
+use Rattle.std.proofs.Common.{le_refl, not-suc-le-zero, le_of_suc-le-suc, arith, ◌∙◌, ap, eqb-true, lt-ltb}
+use Rattle.std.proofs.Common.{le-ltb, ltb-true, ltb-false}
 use Rattle.std.proofs.Math.Path.{sym}
 use Rattle.std.proofs.Math.Seq.{take-length}
 use Rattle.std.proofs.lemmas.Bool.{eqb-false}
@@ -12,7 +13,6 @@ use Rattle.row_theory.specs.States.{held_bit, held_in}
 use Rattle.row_theory.specs.Slots.{frames_in}
 use Rattle.row_theory.specs.Counting.{times_cons}
 use Rattle.row_theory.specs.SlotLaws.{frames_in_frame, frames_in_empty}
-use Rattle.row_theory.proofs.TestStepLaws.{held_none, held_take}
 
 -- the sum of the first so many
 unfoldable sum_to : (ℕ → ℕ) → ℕ → ℕ
@@ -57,6 +57,18 @@ frames_sum (x ∷ slots) =
     (omega (arith, both, rw e at (sum_one x frames), frames_sum slots)))
 
 -- the frames held, frame by frame
+held_none : (states : List ℕ) → held_in (take 0 states) ≡ 0
+unfolding held_in
+held_none [] = refl
+held_none (s ∷ states) = refl
+
+held_take : (states : List ℕ) (i : ℕ) → i < length states →
+    held_in (take (suc i) states) ≡ held_in (take i states) + held_bit (get_or states i 0)
+unfolding held_in
+held_take [] i inside = absurd (not-suc-le-zero inside)
+held_take (s ∷ states) zero inside = omega arith
+held_take (s ∷ states) (suc i) inside = omega (arith, held_take states i (le_of_suc-le-suc inside))
+
 held_sum : (states : List ℕ) (n : ℕ) → n ≤ length states → held_in (take n states) ≡ sum_to (λ f. held_bit (get_or states f 0)) n
 unfolding sum_to
 held_sum states zero most = held_none states

@@ -1,9 +1,10 @@
 -- What each step of the test of a row answers (TestSteps): what code reads decides its part of the test.
-use Rattle.std.specs.Prelude.{ℕ, zero, suc, ◌+◌, ◌<◌, ◌≤◌, ◌≡◌, refl, Bool, true, false, cond, List, [], ◌∷◌, leb, ltb, eqb}
-use Rattle.std.specs.Prelude.{length, take}
-use Rattle.std.proofs.Common.{zero-le, not-suc-le-zero, le_of_suc-le-suc, add-one, arith, sym, ◌∙◌, ap, take_all, eq-eqb}
+use Rattle.std.specs.Prelude.{ℕ, zero, suc, ◌<◌, ◌≤◌, ◌≡◌, refl, Bool, true, false, cond, List, [], ◌∷◌, leb, ltb, eqb}
+use Rattle.std.specs.Prelude.{length, not, count_by}
+use Rattle.std.proofs.Common.{not-suc-le-zero, le_of_suc-le-suc, arith, sym, ◌∙◌, eq-eqb}
 use Rattle.std.proofs.Common.{ne_eqb, lt-ltb, le-ltb, le-leb, ltb-true}
 use Rattle.std.proofs.lemmas.Bool.{lt-leb}
+use Rattle.std.proofs.lemmas.List.Recursion.{is_count_by}
 use Rattle.std.proofs.lemmas.Bool.Decides.{nat_tests}
 use Rattle.std.proofs.Math.ListN.{get_or-eq_default, get_or}
 use Rattle.rules.specs.Limits.{frames}
@@ -12,8 +13,7 @@ use Rattle.rules.specs.Cases.{by_cases}
 use Rattle.row_theory.specs.States.{absent, busy, state_of, held_bit, held_in}
 use Rattle.row_theory.specs.Slots.{empty, frames_in}
 use Rattle.row_theory.specs.RowTest.{nowhere, slot_sound, frame_sound, place_sound, room_sound}
-use Rattle.row_theory.specs.StateLaws.{held_bit_small}
-use Rattle.row_theory.specs.TestSteps.{SlotTested, PlaceTested, FrameTested, RoomTested, full_bit}
+use Rattle.row_theory.specs.TestSteps.{SlotTested, PlaceTested, FrameTested, RoomTested}
 
 -- what is read within a list does not depend on what is read past its end
 inside_reads : (l : List ℕ) (i d e : ℕ) → i < length l → get_or l i d ≡ get_or l i e
@@ -96,75 +96,19 @@ module _ {slots : List ℕ} {front held : ℕ} where
       let same = inside_reads slots front 0 empty (omega arith) in
       record { is = unfold room_sound in rw (← same, lt-ltb (get_or slots front 0) frames full) }
 
--- the frames held among the first so many
-pub record HeldTo (states : List ℕ) (i held : ℕ) : Type 0 where
-  pub most : i ≤ frames
-  pub few : held ≤ i
-  pub sum : held ≡ held_in (take i states)
+-- the frames held, and those in the slots, as code counts them
+pub held_counted : {n : ℕ} (states : List ℕ) → n ≡ count_by (λ s. not (eqb s absent)) states → n ≡ held_in states
+unfolding held_in held_bit
+held_counted states counted =
+    counted
+    ∙ sym
+    (is_count_by held_in (λ s. not (eqb s absent)) refl
+    (λ s states. by_cases (eqb s absent) (λ e. rw e (omega arith)) (λ e. rw e)) states)
 
-pub held_none : (states : List ℕ) → held_in (take 0 states) ≡ 0
-unfolding held_in
-held_none [] = refl
-held_none (s ∷ states) = refl
-
-pub held_start : {states : List ℕ} → HeldTo states 0 0
-held_start {states} = record { most = zero-le; few = zero-le; sum = sym (held_none states) }
-
-pub held_take : (states : List ℕ) (i : ℕ) → i < length states →
-    held_in (take (suc i) states) ≡ held_in (take i states) + held_bit (get_or states i 0)
-unfolding held_in
-held_take [] i inside = absurd (not-suc-le-zero inside)
-held_take (s ∷ states) zero inside = omega arith
-held_take (s ∷ states) (suc i) inside = omega (arith, held_take states i (le_of_suc-le-suc inside))
-
-pub held_next : {states : List ℕ} {i held : ℕ} → length states ≡ frames → HeldTo states i held → i < frames →
-    HeldTo states (i + 1) (held + held_bit (get_or states i 0))
-held_next {states} {i} {held} long so_far below =
-    record {
-      most = omega arith;
-      few = omega (arith, so_far.few, held_bit_small (get_or states i 0));
-      sum = rw (add-one i) (omega (arith, so_far.sum, held_take states i (omega arith)));
-    }
-
-pub held_end : {states : List ℕ} {i held : ℕ} → length states ≡ frames → HeldTo states i held → frames ≤ i →
-    held ≡ held_in states
-held_end {states} {i} long so_far ended = so_far.sum ∙ ap held_in (take_all i states (omega arith))
-
--- the frames in the first so many slots
-pub record FullTo (slots : List ℕ) (i full : ℕ) : Type 0 where
-  pub most : i ≤ Limits.slots
-  pub few : full ≤ i
-  pub sum : full ≡ length (frames_in (take i slots))
-
-full_none : (slots : List ℕ) → length (frames_in (take 0 slots)) ≡ 0
+pub full_counted : {n : ℕ} (slots : List ℕ) → n ≡ count_by (λ x. ltb x frames) slots → n ≡ length (frames_in slots)
 unfolding frames_in
-full_none [] = refl
-full_none (x ∷ slots) = refl
-
-pub full_start : {slots : List ℕ} → FullTo slots 0 0
-full_start {slots} = record { most = zero-le; few = zero-le; sum = sym (full_none slots) }
-
-full_take : (slots : List ℕ) (i : ℕ) → i < length slots →
-    length (frames_in (take (suc i) slots)) ≡ length (frames_in (take i slots)) + full_bit (get_or slots i 0)
-unfolding frames_in
-full_take [] i inside = absurd (not-suc-le-zero inside)
-full_take (x ∷ slots) zero inside = by_cases (ltb x frames) (λ e. rw e (omega arith)) (λ e. rw e (omega arith))
-full_take (x ∷ slots) (suc i) inside =
-    let rest = full_take slots i (le_of_suc-le-suc inside) in
-    by_cases (ltb x frames) (λ e. rw e (omega (arith, rest))) (λ e. rw e (omega (arith, rest)))
-
-pub full_bit_small : (x : ℕ) → full_bit x ≤ 1
-full_bit_small x = by_cases (ltb x frames) (λ e. rw e (omega arith)) (λ e. rw e (omega arith))
-
-pub full_next : {slots : List ℕ} {i full : ℕ} → length slots ≡ Limits.slots → FullTo slots i full → i < Limits.slots →
-    FullTo slots (i + 1) (full + full_bit (get_or slots i 0))
-full_next {slots} {i} {full} long so_far below =
-    record {
-      most = omega arith;
-      few = omega (arith, so_far.few, full_bit_small (get_or slots i 0));
-      sum = rw (add-one i) (omega (arith, so_far.sum, full_take slots i (omega arith)));
-    }
-
-pub full_end : {slots : List ℕ} {i full : ℕ} → length slots ≡ Limits.slots → FullTo slots i full → Limits.slots ≤ i →
-    full ≡ length (frames_in slots)
-full_end {slots} {i} long so_far ended = so_far.sum ∙ ap (λ (l : List ℕ). length (frames_in l)) (take_all i slots (omega arith))
+full_counted slots counted =
+    counted
+    ∙ sym
+    (is_count_by (λ l. length (frames_in l)) (λ x. ltb x frames) refl
+    (λ x slots. by_cases (ltb x frames) (λ e. rw e (omega arith)) (λ e. rw e)) slots)

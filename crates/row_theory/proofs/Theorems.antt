@@ -1,12 +1,13 @@
 -- What holds over any calls from a fresh row (docs/RULES.md, D1, D2, L5, W1 to W7), in the rules' own words.
-use Rattle.std.specs.Prelude.{ℕ, ◌*◌, ◌<◌, ◌≤◌, ◌≡◌, refl, Bool, cond, ltb, eqb}
+use Rattle.std.specs.Prelude.{ℕ, ◌*◌, ◌<◌, ◌≤◌, ◌≡◌, refl, Bool, true, false, cond, ltb, eqb, map, Ok, is_ok}
 use Rattle.std.proofs.Common.{arith, sym, ◌∙◌, ap, ltb-true, ltb-false}
 use mathlib.Core.List.{List, [], ◌∷◌, reverse_aux}
 use Rattle.rules.specs.Limits.{frames, slots, held}
-use Rattle.rules.specs.Refusals.{bad_frame, row_full, nothing_held, all_busy}
+use Rattle.rules.specs.Refusals.{bad_frame, row_full, nothing_held, all_busy, refusal_number, refusal_place}
+use Rattle.rules.specs.declared.refusal.Refusal.TheVariants.{NothingHeld, AllBusy}
 use Rattle.rules.specs.Lists.{times}
 use Rattle.rules.specs.Cases.{by_cases}
-use Rattle.row_theory.specs.States.{Call, absent, busy, state_table, state_of, held_bit, held_in}
+use Rattle.row_theory.specs.States.{Call, absent, busy, state_table, state_of, held_bit, held_in, entry_number}
 use Rattle.row_theory.specs.Slots.{Clear, frames_in}
 use Rattle.row_theory.specs.Row.{reply_of, examined_of, any_frame, victim_among, victim_of}
 use Rattle.row_theory.specs.History.{states_after, moment_after, moves_after, MayGo, VictimIs, VictimSays}
@@ -17,16 +18,23 @@ use Rattle.row_theory.proofs.SoundRow.{sound_after}
 use Rattle.row_theory.proofs.Bound.{paid_after}
 use Rattle.row_theory.proofs.SqueezeLaws.{packed_after}
 use Rattle.row_theory.proofs.VictimLaws.{oldest_now, oldest_victim, oldest_no_victim}
-use Rattle.row_theory.specs.declared.Victim.TheVariants.{Given}
 
 -- W6: the table in the rules' own numbers, where 0 is absent, 1 idle and 2 busy; and the numbers that stand outside it (R20,
 -- R25 to R27)
-pub table_numbers : state_table ≡
+pub table_numbers : map (map entry_number) state_table ≡
     (1 ∷ 22 ∷ 22 ∷ 22 ∷ 22 ∷ [])
     ∷ (21 ∷ 1 ∷ 2 ∷ 24 ∷ 0 ∷ [])
     ∷ (21 ∷ 2 ∷ 23 ∷ 1 ∷ 23 ∷ [])
     ∷ []
 table_numbers = refl
+
+-- which of them are next states
+pub table_accepts : map (map is_ok) state_table ≡
+    (true ∷ false ∷ false ∷ false ∷ false ∷ [])
+    ∷ (false ∷ true ∷ true ∷ false ∷ true ∷ [])
+    ∷ (false ∷ true ∷ false ∷ true ∷ false ∷ [])
+    ∷ []
+table_accepts = refl
 
 pub other_numbers : bad_frame ∷ row_full ∷ nothing_held ∷ all_busy ∷ [] ≡ 20 ∷ 25 ∷ 26 ∷ 27 ∷ []
 other_numbers = refl
@@ -58,6 +66,13 @@ squeeze_packs call history examined = packed_after call history examined
 pub examined_bound : (history : List Call) → examined_after history ≤ 2 * moves_after history
 examined_bound history = (paid_after history).bound
 
+-- R26, R27: the number and the place beside no victim
+none_number : (n : ℕ) → refusal_number (cond (eqb n 0) NothingHeld AllBusy) ≡ cond (eqb n 0) nothing_held all_busy
+none_number n = by_cases (eqb n 0) (λ e. rw e) (λ e. rw e)
+
+none_place : (n : ℕ) → refusal_place (cond (eqb n 0) NothingHeld AllBusy) ≡ 0
+none_place n = by_cases (eqb n 0) (λ e. rw e) (λ e. rw e)
+
 -- W7, R26, R27: what the answer says of the history, whatever frames the caller lets go
 pub victim_says : (history : List Call) (may : ℕ → Bool) → VictimSays history may (victim_among may (row_after history))
 unfolding victim_among
@@ -69,8 +84,10 @@ victim_says history may =
     (λ e. rw e
     (record {
       none = oldest_no_victim history may (ltb-false oldest frames e);
-      number = ap (λ (n : ℕ). cond (eqb n 0) nothing_held all_busy) (sound_after history).number;
-      place = refl;
+      number =
+          none_number (row_after history).held ∙
+          ap (λ (n : ℕ). cond (eqb n 0) nothing_held all_busy) (sound_after history).number;
+      place = none_place (row_after history).held;
     })))
 
 -- D2, W7: the row's own victim is the idle frame whose last accepted put or touch came earliest
@@ -79,7 +96,7 @@ idle_victim_says history = victim_says history any_frame
 
 -- D1: a busy frame is never given as victim, whatever frames the caller lets go
 pub busy_no_victim : (history : List Call) (may : ℕ → Bool) (frame : ℕ) → state_of (states_after history) frame ≡ busy →
-    victim_among may (row_after history) ≡ Given (record { 0 = frame }) → ⊥
+    victim_among may (row_after history) ≡ Ok (record { 0 = frame }) → ⊥
 busy_no_victim history may frame is_busy given =
     let says : VictimIs (MayGo history may) (moment_after history) frame = rw given at (victim_says history may) in
     omega (arith, says.may_go.0)

@@ -1,11 +1,11 @@
 -- What each verdict says of the row's answer and of the row after the call, and the ways to a verdict.
-use Rattle.std.specs.Prelude.{ℕ, ◌<◌, ◌≤◌, ◌≡◌, true, false, List, leb, eqb, set}
-use Rattle.std.proofs.Common.{arith, ◌∙◌}
-use borrow.Author.Tests.{eq-eqb, ne_eqb, lt-ltb, le-ltb, lt-leb, le-leb}
+use Rattle.std.specs.Prelude.{ℕ, ◌<◌, ◌≤◌, ◌≡◌, true, false, List, eqb, set, Ok, Err}
+use Rattle.std.proofs.Common.{sym, ◌∙◌}
+use borrow.Author.Tests.{eq-eqb, ne_eqb, lt-leb, le-leb}
 use Rattle.rules.specs.Limits.{frames, held}
-use Rattle.rules.specs.Refusals.{bad_frame, row_full}
-use Rattle.row_theory.specs.States.{Call, absent, busy, table_at, state_of, held_in, is_put, verdict_of, refusal_of, accepts}
-use Rattle.row_theory.specs.States.{states_then}
+use Rattle.rules.specs.declared.refusal.Refusal.{Refusal}
+use Rattle.rules.specs.declared.refusal.Refusal.TheVariants.{BadFrame, RowFull}
+use Rattle.row_theory.specs.States.{Call, absent, busy, table_at, state_of, held_in, is_put, verdict_of, accepts, states_then}
 use Rattle.row_theory.specs.Slots.{slots_then, front_then, examined_then}
 use Rattle.row_theory.specs.Row.{Row, moved, after, reply_of}
 use Rattle.row_theory.specs.Promise.{row_with, asked}
@@ -14,19 +14,17 @@ use Rattle.row_theory.specs.StepLaws.{Ready}
 use Rattle.row_theory.proofs.PromiseLaws.{Ordered}
 use Rattle.row_theory.specs.StateLaws.{put_absent}
 use Rattle.row_theory.specs.declared.Event.{Event}
-use Rattle.row_theory.specs.declared.Reply.TheVariants.{Done, Refused}
 
--- what a verdict above `busy` says
-pub record Refusing (row : Row) (call : Call) (number : ℕ) : Type 0 where
-  pub reply : reply_of row call ≡ Refused (record { number = number; place = 0 })
+-- what a refusal says
+pub record Refusing (row : Row) (call : Call) (r : Refusal) : Type 0 where
+  pub reply : reply_of row call ≡ Err r
   pub same : after row call ≡ row
 
-pub refused_verdict : (row : Row) (call : Call) → busy < verdict_of row.states call →
-    Refusing row call (verdict_of row.states call)
-unfolding accepts reply_of refusal_of
-refused_verdict row call big =
-    let no : leb (verdict_of row.states call) busy ≡ false = lt-leb (verdict_of row.states call) busy big in
-    record { reply = rw no; same = after_refused row call no }
+pub refused_verdict : (row : Row) (call : Call) {r : Refusal} → verdict_of row.states call ≡ Err r → Refusing row call r
+unfolding accepts reply_of
+refused_verdict row call is =
+    let no : accepts row.states call ≡ false = rw is in
+    record { reply = rw is; same = after_refused row call no }
 
 -- what an accepted call makes of the row, in the steps of the code
 abbrev pub row_then : Row → Event → ℕ → ℕ → Row
@@ -34,64 +32,61 @@ row_then row event frame next =
     row_with (slots_then event row.slots row.front frame) (set row.states frame next)
     (front_then event row.slots row.front frame) (held_in (set row.states frame next))
 
--- what a verdict up to `busy` says of a row that calls give
+-- what a next state says of a row that calls give
 pub record Accepting (row : Row) (event : Event) (frame next : ℕ) : Type 0 where
   pub finds : Ready event row.slots row.front frame
-  pub reply : reply_of row (asked event frame) ≡ Done (examined_then event row.front)
+  pub reply : reply_of row (asked event frame) ≡ Ok (examined_then event row.front)
   pub leaves : after row (asked event frame) ≡ row_then row event frame next
 
-moved_is : (row : Row) (event : Event) (frame : ℕ) → accepts row.states (asked event frame) ≡ true →
-    moved row (asked event frame) ≡ row_then row event frame (verdict_of row.states (asked event frame))
+moved_is : (row : Row) (event : Event) (frame : ℕ) {next : ℕ} → verdict_of row.states (asked event frame) ≡ Ok next →
+    moved row (asked event frame) ≡ row_then row event frame next
 unfolding moved states_then
-moved_is row event frame ok = rw ok
+moved_is row event frame is = rw is
 
-reply_accepted : (row : Row) (call : Call) → accepts row.states call ≡ true →
-    reply_of row call ≡ Done (examined_then call.event row.front)
+reply_accepted : (row : Row) (call : Call) {next : ℕ} → verdict_of row.states call ≡ Ok next →
+    reply_of row call ≡ Ok (examined_then call.event row.front)
 unfolding reply_of
-reply_accepted row call ok = rw ok
+reply_accepted row call is = rw is
 
-pub accepted_verdict : (row : Row) (event : Event) (frame : ℕ) → Ordered row →
-    verdict_of row.states (asked event frame) ≤ busy →
-    Accepting row event frame (verdict_of row.states (asked event frame))
-accepted_verdict row event frame order low =
+pub accepted_verdict : (row : Row) (event : Event) (frame : ℕ) {next : ℕ} → Ordered row →
+    verdict_of row.states (asked event frame) ≡ Ok next → Accepting row event frame next
+accepted_verdict row event frame order is =
     let call = asked event frame in
-    let ok : accepts row.states call ≡ true = unfold accepts in le-leb (verdict_of row.states call) busy low in
+    let ok : accepts row.states call ≡ true = unfold accepts in rw is in
     record {
       finds = ready call order.sound order.good ok;
-      reply = reply_accepted row call ok;
-      leaves = after_accepted row call ok ∙ moved_is row event frame ok;
+      reply = reply_accepted row call is;
+      leaves = after_accepted row call ok ∙ moved_is row event frame is;
     }
 
 -- the ways through the order of refusals
 module _ (states : List ℕ) (event : Event) (frame : ℕ) where
-  pub verdict_past : frames ≤ frame → bad_frame ≡ verdict_of states (asked event frame)
+  pub verdict_past : frames ≤ frame → Err BadFrame ≡ verdict_of states (asked event frame)
   unfolding verdict_of
   verdict_past past = rw (le-leb frames frame past)
 
-  pub verdict_table : {cell : ℕ} → frame < frames → cell ≡ table_at (state_of states frame) event → busy < cell →
-      cell ≡ verdict_of states (asked event frame)
+  pub verdict_table : {r : Refusal} → frame < frames → Err r ≡ table_at (state_of states frame) event →
+      Err r ≡ verdict_of states (asked event frame)
   unfolding verdict_of
-  verdict_table small is big = rw (lt-leb frames frame small, ← is, lt-ltb busy _ big)
+  verdict_table small is = rw (lt-leb frames frame small, ← is)
 
   -- the table lets the event through; only a put may still find no room
-  module _ (small : frame < frames) (known : state_of states frame ≤ busy) {cell : ℕ}
-      (is : cell ≡ table_at (state_of states frame) event) (low : cell ≤ busy) where
+  module _ (small : frame < frames) (known : state_of states frame ≤ busy) {next : ℕ}
+      (is : Ok next ≡ table_at (state_of states frame) event) where
     put_if : is_put event ≡ eqb (state_of states frame) absent
-    put_if = put_absent event (state_of states frame) known (omega arith)
+    put_if = put_absent event (state_of states frame) known (sym is)
 
-    pub verdict_held : (state_of states frame ≡ absent → ⊥) → cell ≡ verdict_of states (asked event frame)
+    pub verdict_held : (state_of states frame ≡ absent → ⊥) → Ok next ≡ verdict_of states (asked event frame)
     unfolding verdict_of
-    verdict_held held =
-        rw (lt-leb frames frame small, ← is, le-ltb busy _ low, put_if, ne_eqb (state_of states frame) absent held)
+    verdict_held held = rw (lt-leb frames frame small, ← is, put_if, ne_eqb (state_of states frame) absent held)
 
     pub verdict_full : {n : ℕ} → state_of states frame ≡ absent → n ≡ held_in states → held ≤ n →
-        row_full ≡ verdict_of states (asked event frame)
+        Err RowFull ≡ verdict_of states (asked event frame)
     unfolding verdict_of
     verdict_full {n} gone number full =
         rw (
           lt-leb frames frame small,
           ← is,
-          le-ltb busy _ low,
           put_if,
           eq-eqb (state_of states frame) absent gone,
           ← number,
@@ -99,13 +94,12 @@ module _ (states : List ℕ) (event : Event) (frame : ℕ) where
         )
 
     pub verdict_next : {n : ℕ} → state_of states frame ≡ absent → n ≡ held_in states → n < held →
-        cell ≡ verdict_of states (asked event frame)
+        Ok next ≡ verdict_of states (asked event frame)
     unfolding verdict_of
     verdict_next {n} gone number room =
         rw (
           lt-leb frames frame small,
           ← is,
-          le-ltb busy _ low,
           put_if,
           eq-eqb (state_of states frame) absent gone,
           ← number,

@@ -1,8 +1,10 @@
 -- The victim after any calls (docs/RULES.md, W7): the frames that may go stand in the slots, and the oldest of them has the
 -- earliest moment.
-use Rattle.std.specs.Prelude.{ℕ, ◌<◌, ◌≤◌, ◌≡◌, Bool, true, ◌&&◌, List, ltb, eqb}
+use Rattle.std.specs.Prelude.{ℕ, ◌<◌, ◌≤◌, ◌≡◌, Bool, true, ◌&&◌, List, ltb, eqb, Result, Ok, Err}
 use Rattle.std.proofs.Common.{arith, eqb-true, lt-ltb, ltb-true, ltb-false}
 use Rattle.rules.specs.Limits.{frames}
+use Rattle.rules.specs.declared.Frame.{Frame}
+use Rattle.rules.specs.declared.refusal.Refusal.{Refusal}
 use Rattle.rules.specs.Cases.{by_cases, and_left, and_right}
 use Rattle.rules.specs.Lists.{times}
 use Rattle.row_theory.specs.States.{Call, idle, state_of, held_bit}
@@ -12,8 +14,6 @@ use Rattle.row_theory.specs.History.{states_after, moment_after, MayGo, VictimIs
 use Rattle.row_theory.specs.Runs.{row_after}
 use Rattle.row_theory.specs.SlotLaws.{times_past}
 use Rattle.row_theory.proofs.SoundRow.{sound_after}
-use Rattle.row_theory.specs.declared.Victim.{Victim}
-use Rattle.row_theory.specs.declared.Victim.TheVariants.{Given, Refused}
 use Rattle.row_theory.proofs.Oldest.{EarliestPassing, oldest_frames_in, oldest_none, oldest_chosen}
 
 -- an idle frame stands in the slots
@@ -71,14 +71,15 @@ module _ (history : List Call) (may : ℕ → Bool) where
 
 -- W7: an answer about the frames that may go and their moments is one about frames that may go alike, whose moments are in the
 -- same order
-pub victim_alike : {goes also : ℕ → Type 0} {moment and : ℕ → ℕ} (states : List ℕ) (victim : Victim) →
+pub victim_alike : {goes also : ℕ → Type 0} {moment and : ℕ → ℕ} (states : List ℕ)
+    (victim : Result Frame Refusal) →
     ((frame : ℕ) → goes frame → also frame) → ((frame : ℕ) → also frame → goes frame) →
     ((frame other : ℕ) → moment frame < moment other → and frame < and other) → VictimOf goes moment states victim →
     VictimOf also and states victim
-victim_alike states (Given frame) to from later says =
+victim_alike states (Ok frame) to from later says =
     record {
       may_go = to frame.0 says.may_go;
       earliest = λ other apart go. later frame.0 other (says.earliest other apart (from other go));
     }
-victim_alike states (Refused refusal) to from later says =
+victim_alike states (Err refusal) to from later says =
     record { none = λ frame go. says.none frame (from frame go); number = says.number; place = says.place }

@@ -1,11 +1,10 @@
 -- Call histories (docs/RULES.md, W5 to W7): what a sequence of calls says by itself. Nothing here knows of slots, as the
 -- imports show. A history is the calls so far, latest first, refused ones included.
-use Rattle.std.specs.Prelude.{ℕ, ◌+◌, ◌<◌, ◌≡◌, Bool, true, cond, ◌&&◌, List, [], ◌∷◌, eqb, length}
-use Rattle.rules.specs.Refusals.{nothing_held, all_busy}
-use Rattle.rules.specs.declared.Refusal.{Refusal}
+use Rattle.std.specs.Prelude.{ℕ, ◌+◌, ◌<◌, ◌≡◌, Bool, true, cond, ◌&&◌, List, [], ◌∷◌, eqb, length, Result, Ok, Err}
+use Rattle.rules.specs.Refusals.{nothing_held, all_busy, refusal_number, refusal_place}
+use Rattle.rules.specs.declared.Frame.{Frame}
+use Rattle.rules.specs.declared.refusal.Refusal.{Refusal}
 use Rattle.row_theory.specs.States.{Call, idle, fresh_states, state_of, held_in, accepts, states_then, moves}
-use Rattle.row_theory.specs.declared.Victim.{Victim}
-use Rattle.row_theory.specs.declared.Victim.TheVariants.{Given, Refused}
 
 -- which frames are absent, idle or busy
 unfoldable pub states_after : List Call → List ℕ
@@ -39,14 +38,14 @@ pub record VictimIs (goes : ℕ → Type 0) (moment : ℕ → ℕ) (frame : ℕ)
 -- R26, R27: none may go, and the number says whether any frame is held
 pub record NoVictim (goes : ℕ → Type 0) (states : List ℕ) (refusal : Refusal) : Type 0 where
   pub none : (frame : ℕ) → goes frame → ⊥
-  pub number : refusal.number ≡ cond (eqb (held_in states) 0) nothing_held all_busy
-  pub place : refusal.place ≡ 0
+  pub number : refusal_number refusal ≡ cond (eqb (held_in states) 0) nothing_held all_busy
+  pub place : refusal_place refusal ≡ 0
 
 -- what an answer to asking for a victim says of the frames that may go, their moments, and the states
-abbrev pub VictimOf : (ℕ → Type 0) → (ℕ → ℕ) → List ℕ → Victim → Type 0
-VictimOf goes moment states (Given frame) = VictimIs goes moment frame.0
-VictimOf goes moment states (Refused refusal) = NoVictim goes states refusal
+abbrev pub VictimOf : (ℕ → Type 0) → (ℕ → ℕ) → List ℕ → Result Frame Refusal → Type 0
+VictimOf goes moment states (Ok frame) = VictimIs goes moment frame.0
+VictimOf goes moment states (Err refusal) = NoVictim goes states refusal
 
 -- and so of the history
-abbrev pub VictimSays : List Call → (ℕ → Bool) → Victim → Type 0
+abbrev pub VictimSays : List Call → (ℕ → Bool) → Result Frame Refusal → Type 0
 VictimSays history may victim = VictimOf (MayGo history may) (moment_after history) (states_after history) victim

@@ -1,14 +1,14 @@
 -- What the row's calls promise (docs/RULES.md, D1, A1, A3, W1 to W7), over a row in memory that the caller lends.
-use Rattle.std.specs.Prelude.{ℕ, ◌≡◌, Bool, cond, List, ◌∷◌, ltb}
+use Rattle.std.specs.Prelude.{ℕ, ◌≡◌, Bool, cond, List, ◌∷◌, ltb, Result}
 use Rattle.rules.specs.Limits.{frames}
+use Rattle.rules.specs.declared.Frame.{Frame}
+use Rattle.rules.specs.declared.refusal.Refusal.{Refusal}
 use Rattle.row_theory.specs.States.{Call, absent, state_of, refusal_of}
 use Rattle.row_theory.specs.Slots.{places_in}
 use Rattle.row_theory.specs.Row.{Row, empty_row, after, reply_of, reply_number, reply_place, victim_among}
 use Rattle.row_theory.specs.History.{states_after, VictimSays}
 use Rattle.row_theory.specs.Runs.{row_after, Reached}
 use Rattle.row_theory.specs.declared.Event.{Event}
-use Rattle.row_theory.specs.declared.Reply.{Reply}
-use Rattle.row_theory.specs.declared.Victim.{Victim}
 
 -- the memory that the caller lends: the slots, each frame's place in them, each frame's state, the front mark, the number held
 pub record Memory : Type 0 where
@@ -39,14 +39,14 @@ asked event frame = record { event = event; frame = frame }
 
 -- what a reply and the row after it say of a history before the call: the number is the one that the history says (0:
 -- accepted), the place is 0, and the row is that of the longer history
-pub record ReplySays (history : List Call) (call : Call) (reply : Reply) (row' : Row) : Type 0 where
+pub record ReplySays (history : List Call) (call : Call) (reply : Result ℕ Refusal) (row' : Row) : Type 0 where
   pub number : reply_number reply ≡ refusal_of (states_after history) call
   pub place : reply_place reply ≡ 0
   pub next : row' ≡ row_after (call ∷ history)
 
 -- one of the five calls: the whole answer and the whole row after it, which again is one that calls give; and what that says
 -- of any history that gives the row
-pub record Answered (m : Memory) (call : Call) (reply : Reply) (m' : Memory) : Type 0 where
+pub record Answered (m : Memory) (call : Call) (reply : Result ℕ Refusal) (m' : Memory) : Type 0 where
   pub answer : reply ≡ reply_of (row_in m) call
   pub next : row_in m' ≡ after (row_in m) call
   pub stands : Stands m'
@@ -59,7 +59,7 @@ pub record FreshRow (m : Memory) : Type 0 where
 
 -- W7, R26, R27: the oldest idle frame among those that the caller lets go: the whole answer, and what it says of any history
 -- that gives the row
-pub record OldestIdle (row : Row) (may : ℕ → Bool) (victim : Victim) : Type 0 where
+pub record OldestIdle (row : Row) (may : ℕ → Bool) (victim : Result Frame Refusal) : Type 0 where
   pub answer : victim ≡ victim_among may row
   pub says : (history : List Call) → row_after history ≡ row → VictimSays history may victim
 

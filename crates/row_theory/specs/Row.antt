@@ -1,14 +1,14 @@
 -- The frame row (docs/RULES.md, W1 to W7): its whole state, what each call makes of it, and what each call answers.
-use Rattle.std.specs.Prelude.{ℕ, Bool, true, cond, ◌&&◌, List, [], ◌∷◌, ltb, eqb, get_or, replicate}
+use Rattle.std.specs.Prelude.{ℕ, Bool, true, cond, ◌&&◌, List, [], ◌∷◌, ltb, eqb, get_or, replicate, Result, Ok, Err}
+use Rattle.std.specs.Result.{result_and}
 use Rattle.rules.specs.Limits.{frames}
 use Rattle.rules.specs.Limits
-use Rattle.rules.specs.Refusals.{nothing_held, all_busy}
-use Rattle.row_theory.specs.States.{Call, idle, state_of, fresh_states, held_in, refusal_of, accepts, states_then}
+use Rattle.rules.specs.Refusals.{refusal_number, refusal_place}
+use Rattle.rules.specs.declared.Frame.{Frame}
+use Rattle.rules.specs.declared.refusal.Refusal.{Refusal}
+use Rattle.rules.specs.declared.refusal.Refusal.TheVariants.{NothingHeld, AllBusy}
+use Rattle.row_theory.specs.States.{Call, idle, state_of, fresh_states, held_in, number_in, verdict_of, accepts, states_then}
 use Rattle.row_theory.specs.Slots.{empty, slots_then, front_then, examined_then, oldest}
-use Rattle.row_theory.specs.declared.Reply.{Reply}
-use Rattle.row_theory.specs.declared.Reply.TheVariants.{Done, Refused}
-use Rattle.row_theory.specs.declared.Victim.{Victim}
-use Rattle.row_theory.specs.declared.Victim.TheVariants as victim
 
 -- the whole state: the slots, the states of all frames, the front mark, and the number of frames held
 pub record Row : Type 0 where
@@ -35,24 +35,21 @@ moved row call =
 unfoldable pub after : Row → Call → Row
 after row call = cond (accepts row.states call) (moved row call) row
 
--- A1, W5: what the call answers
-unfoldable pub reply_of : Row → Call → Reply
-reply_of row call =
-    cond (accepts row.states call) (Done (examined_then call.event row.front))
-    (Refused (record { number = refusal_of row.states call; place = 0 }))
+-- A1, W5: what the call answers: the slots examined, or the verdict's refusal
+unfoldable pub reply_of : Row → Call → Result ℕ Refusal
+reply_of row call = result_and (verdict_of row.states call) (Ok (examined_then call.event row.front))
 
 -- the rules' number of a reply (0: no refusal), its place, and its slots examined
-abbrev pub reply_number : Reply → ℕ
-reply_number (Done n) = 0
-reply_number (Refused r) = r.number
+abbrev pub reply_number : Result ℕ Refusal → ℕ
+reply_number reply = number_in reply
 
-abbrev pub reply_place : Reply → ℕ
-reply_place (Done n) = 0
-reply_place (Refused r) = r.place
+abbrev pub reply_place : Result ℕ Refusal → ℕ
+reply_place (Ok n) = 0
+reply_place (Err r) = refusal_place r
 
-abbrev pub examined_of : Reply → ℕ
-examined_of (Done n) = n
-examined_of (Refused r) = 0
+abbrev pub examined_of : Result ℕ Refusal → ℕ
+examined_of (Ok n) = n
+examined_of (Err r) = 0
 
 -- which frames a caller lets go: any, or those that bear this mark in a table of marks
 abbrev pub any_frame : ℕ → Bool
@@ -69,17 +66,16 @@ unfoldable pub idle_among : (ℕ → Bool) → List ℕ → ℕ → Bool
 idle_among may states frame = eqb (state_of states frame) idle && may frame
 
 -- R26, R27, W7: the oldest idle frame among those that the caller lets go
-unfoldable pub victim_among : (ℕ → Bool) → Row → Victim
+unfoldable pub victim_among : (ℕ → Bool) → Row → Result Frame Refusal
 victim_among may row =
     let given = oldest (idle_among may row.states) row.slots in
-    cond (ltb given frames) (victim.Given (record { 0 = given }))
-    (victim.Refused (record { number = cond (eqb row.held 0) nothing_held all_busy; place = 0 }))
+    cond (ltb given frames) (Ok (record { 0 = given })) (Err (cond (eqb row.held 0) NothingHeld AllBusy))
 
 -- W7: the row's own victim
-abbrev pub victim_of : Row → Victim
+abbrev pub victim_of : Row → Result Frame Refusal
 victim_of row = victim_among any_frame row
 
 -- the rules' number of a victim's answer (0: no refusal) and its frame (0 beside a refusal)
-abbrev pub victim_shown : Victim → List ℕ
-victim_shown (victim.Given f) = 0 ∷ f.0 ∷ []
-victim_shown (victim.Refused r) = r.number ∷ 0 ∷ []
+abbrev pub victim_shown : Result Frame Refusal → List ℕ
+victim_shown (Ok f) = 0 ∷ f.0 ∷ []
+victim_shown (Err r) = refusal_number r ∷ 0 ∷ []

@@ -1,14 +1,14 @@
 -- The row that a fresh row and calls give (docs/RULES.md, W1 to W5), latest call first or first call first, and its order by
 -- moments.
-use Rattle.std.specs.Prelude.{ℕ, ◌+◌, ◌<◌, ◌≤◌, ◌≡◌, List, [], ◌∷◌, get_or}
+use Rattle.std.specs.Prelude.{ℕ, ◌+◌, ◌<◌, ◌≤◌, ◌≡◌, List, [], ◌∷◌, get_or, Result}
 use Rattle.rules.specs.Limits.{frames, slots}
+use Rattle.rules.specs.declared.Frame.{Frame}
+use Rattle.rules.specs.declared.refusal.Refusal.{Refusal}
 use Rattle.rules.specs.Lists.{times}
 use Rattle.row_theory.specs.States.{Call, table_at, held_bit, held_in, verdict_of, refusal_of, accepts, states_then}
 use Rattle.row_theory.specs.Slots.{empty, frames_in, emptied, squeezed_front, squeezed, roomy_slots, roomy_front, vacated}
 use Rattle.row_theory.specs.Slots.{slots_then, front_then, examined_then, passes, older, oldest}
 use Rattle.row_theory.specs.Row.{Row, empty_row, moved, after, reply_of, examined_of, idle_among, victim_among, victim_of}
-use Rattle.row_theory.specs.declared.Reply.{Reply}
-use Rattle.row_theory.specs.declared.Victim.{Victim}
 
 -- the row that a fresh row and these calls give
 unfoldable pub row_after : List Call → Row
@@ -45,17 +45,17 @@ unfoldable pub row_from : Row → List Call → Row
 row_from row [] = row
 row_from row (call ∷ calls) = row_from (after row call) calls
 
-unfoldable pub answers_from : Row → List Call → List Reply
+unfoldable pub answers_from : Row → List Call → List (Result ℕ Refusal)
 answers_from row [] = []
 answers_from row (call ∷ calls) = reply_of row call ∷ answers_from (after row call) calls
 
 -- P9 to P12: what a fresh row answers to these calls, and the victim after them. Whoever unfolds one of the two unfolds all
 -- that it computes by
-unfoldable pub answers_of : List Call → List Reply
+unfoldable pub answers_of : List Call → List (Result ℕ Refusal)
 unfolding table_at held_bit held_in verdict_of refusal_of accepts states_then frames_in emptied squeezed_front squeezed
     roomy_slots roomy_front vacated slots_then front_then examined_then empty_row moved after reply_of answers_from
 answers_of calls = answers_from empty_row calls
 
-unfoldable pub victim_after_calls : List Call → Victim
+unfoldable pub victim_after_calls : List Call → Result Frame Refusal
 unfolding answers_of row_from passes older oldest idle_among victim_among
 victim_after_calls calls = victim_of (row_from empty_row calls)

@@ -1,13 +1,18 @@
 -- Laws of the state table and of the list of states (definitions: States). The table's rule is proved once, over all of its
 -- fifteen entries.
-use Rattle.std.specs.Prelude.{ℕ, zero, suc, ◌+◌, ◌<◌, ◌≤◌, ◌≡◌, refl, Bool, true, false, cond, ◌&&◌, List, [], ◌∷◌, leb, ltb}
-use Rattle.std.specs.Prelude.{eqb, length, get_or, set}
-use Rattle.std.proofs.Common.{not-suc-le-zero, le_of_suc-le-suc, arith, leb-true, leb-false, ltb-false, ltb-true}
+use Rattle.std.specs.Prelude.{ℕ, zero, suc, ◌+◌, ◌<◌, ◌≤◌, ◌≡◌, refl, Bool, true, false, cond, ◌&&◌, List, [], ◌∷◌, leb, eqb}
+use Rattle.std.specs.Prelude.{length, get_or, set, Result, Ok, Err, is_ok, IfOk, IfErr, MatchResult}
+use Rattle.std.proofs.lemmas.Result.{IfOk-at_ok, MatchResult-at_ok}
+use Rattle.std.specs.Result.{result_and}
+use Rattle.std.proofs.Common.{zero-le, not-suc-le-zero, le_of_suc-le-suc, arith, leb-false}
 use Rattle.rules.specs.Limits.{frames, held}
-use Rattle.rules.specs.Refusals.{bad_frame, row_full}
-use Rattle.rules.specs.Cases.{by_cases}
+use Rattle.rules.specs.Refusals.{refusal_number, refusal_place}
+use Rattle.rules.specs.declared.refusal.Refusal.{Refusal}
+use Rattle.rules.specs.declared.refusal.Refusal.TheVariants.{BadFrame, RowFull}
+use Rattle.rules.specs.Cases.{by_cases, clash}
+use Rattle.rules.specs.AnswerLaws.{not_accepted}
 use Rattle.row_theory.specs.States.{Call, absent, idle, busy, table_at, cell_of, held_bit, held_in, rule_of, is_put, verdict_of}
-use Rattle.row_theory.specs.States.{accepts}
+use Rattle.row_theory.specs.States.{accepts, state_of, number_in}
 use Rattle.row_theory.specs.declared.Event.{Event}
 use Rattle.row_theory.specs.declared.Event.TheVariants.{Put, Touch, Start, End, Drop}
 
@@ -50,69 +55,154 @@ bit_later Start = 1
 bit_later End = 1
 bit_later Drop = 0
 
+-- what the table says of an event in a state, where it lets it through
 abbrev EffectAt : Event → ℕ → Type 0
-EffectAt event s = table_at s event ≤ busy → Effect (bit_before event) (bit_later event) s (table_at s event)
+EffectAt event s = IfOk (table_at s event) (Effect (bit_before event) (bit_later event) s)
 
-pub effect : (event : Event) (state : ℕ) → state ≤ busy → table_at state event ≤ busy →
-    Effect (bit_before event) (bit_later event) state (table_at state event)
+effects : (event : Event) (state : ℕ) → state ≤ busy → EffectAt event state
 unfolding table_at held_bit
-effect Put = each_state_law (EffectAt Put) (λ h. record { was = refl; becomes = refl }) (λ h. omega arith) (λ h. omega arith)
-effect Touch =
-    each_state_law (EffectAt Touch) (λ h. omega arith) (λ h. record { was = refl; becomes = refl })
-    (λ h. record { was = refl; becomes = refl })
-effect Start = each_state_law (EffectAt Start) (λ h. omega arith) (λ h. record { was = refl; becomes = refl }) (λ h. omega arith)
-effect End = each_state_law (EffectAt End) (λ h. omega arith) (λ h. omega arith) (λ h. record { was = refl; becomes = refl })
-effect Drop = each_state_law (EffectAt Drop) (λ h. omega arith) (λ h. record { was = refl; becomes = refl }) (λ h. omega arith)
+effects Put = each_state_law (EffectAt Put) (record { was = refl; becomes = refl }) tt tt
+effects Touch =
+    each_state_law (EffectAt Touch) tt (record { was = refl; becomes = refl }) (record { was = refl; becomes = refl })
+effects Start = each_state_law (EffectAt Start) tt (record { was = refl; becomes = refl }) tt
+effects End = each_state_law (EffectAt End) tt tt (record { was = refl; becomes = refl })
+effects Drop = each_state_law (EffectAt Drop) tt (record { was = refl; becomes = refl }) tt
+
+pub effect : (event : Event) (state : ℕ) {next : ℕ} → state ≤ busy → table_at state event ≡ Ok next →
+    Effect (bit_before event) (bit_later event) state next
+effect event state known is = IfOk-at_ok (Effect (bit_before event) (bit_later event) state) is (effects event state known)
 
 -- of an absent frame the table lets only a put through, and a put of no other
 abbrev PutAt : Event → ℕ → Type 0
-PutAt event s = table_at s event ≤ busy → is_put event ≡ eqb s absent
+PutAt event s = IfOk (table_at s event) (λ next. is_put event ≡ eqb s absent)
 
-pub put_absent : (event : Event) (state : ℕ) → state ≤ busy → table_at state event ≤ busy → is_put event ≡ eqb state absent
+puts : (event : Event) (state : ℕ) → state ≤ busy → PutAt event state
 unfolding table_at
-put_absent Put = each_state_law (PutAt Put) (λ h. refl) (λ h. absurd (omega arith)) (λ h. absurd (omega arith))
-put_absent Touch = each_state_law (PutAt Touch) (λ h. absurd (omega arith)) (λ h. refl) (λ h. refl)
-put_absent Start = each_state_law (PutAt Start) (λ h. absurd (omega arith)) (λ h. refl) (λ h. refl)
-put_absent End = each_state_law (PutAt End) (λ h. absurd (omega arith)) (λ h. refl) (λ h. refl)
-put_absent Drop = each_state_law (PutAt Drop) (λ h. absurd (omega arith)) (λ h. refl) (λ h. refl)
+puts Put = each_state_law (PutAt Put) refl tt tt
+puts Touch = each_state_law (PutAt Touch) tt refl refl
+puts Start = each_state_law (PutAt Start) tt refl tt
+puts End = each_state_law (PutAt End) tt tt refl
+puts Drop = each_state_law (PutAt Drop) tt refl tt
+
+pub put_absent : (event : Event) (state : ℕ) {next : ℕ} → state ≤ busy → table_at state event ≡ Ok next →
+    is_put event ≡ eqb state absent
+put_absent event state known is = IfOk-at_ok (λ next. is_put event ≡ eqb state absent) is (puts event state known)
+
+-- an entry is one of the three states, or a refusal that has no place
+abbrev EntryAt : Event → ℕ → Type 0
+EntryAt event s = MatchResult (table_at s event) (λ next. next ≤ busy) (λ r. refusal_place r ≡ 0)
+
+entries : (event : Event) (state : ℕ) → EntryAt event state
+unfolding table_at
+entries Put zero = omega arith
+entries Put (suc zero) = refl
+entries Put (suc (suc zero)) = refl
+entries Put (suc (suc (suc n))) = zero-le
+entries Touch zero = refl
+entries Touch (suc zero) = omega arith
+entries Touch (suc (suc zero)) = omega arith
+entries Touch (suc (suc (suc n))) = zero-le
+entries Start zero = refl
+entries Start (suc zero) = omega arith
+entries Start (suc (suc zero)) = refl
+entries Start (suc (suc (suc n))) = zero-le
+entries End zero = refl
+entries End (suc zero) = refl
+entries End (suc (suc zero)) = omega arith
+entries End (suc (suc (suc n))) = zero-le
+entries Drop zero = refl
+entries Drop (suc zero) = zero-le
+entries Drop (suc (suc zero)) = refl
+entries Drop (suc (suc (suc n))) = zero-le
 
 -- D1: no event makes a busy frame absent
-pub busy_stays : (event : Event) → table_at busy event ≡ absent → ⊥
+pub busy_stays : (event : Event) → table_at busy event ≡ Ok absent → ⊥
 unfolding table_at
-busy_stays Put e = omega arith
-busy_stays Touch e = omega arith
-busy_stays Start e = omega arith
-busy_stays End e = omega arith
-busy_stays Drop e = omega arith
+busy_stays Put e = not_accepted e
+busy_stays Touch e = let z : ◌≡◌ {A = ℕ} busy absent = cc in absurd (omega arith)
+busy_stays Start e = not_accepted e
+busy_stays End e = let z : ◌≡◌ {A = ℕ} idle absent = cc in absurd (omega arith)
+busy_stays Drop e = not_accepted e
 
 -- what acceptance says
 pub record Acceptance (states : List ℕ) (call : Call) : Type 0 where
   pub small : call.frame < frames
-  pub next : verdict_of states call ≡ cell_of states call
-  pub allowed : cell_of states call ≤ busy
+  pub state : ℕ
+  pub next : verdict_of states call ≡ Ok state
+  pub allowed : cell_of states call ≡ Ok state
+  pub known : state ≤ busy
   pub room : is_put call.event ≡ true → held_in states < held
 
--- no test of the order of refusals stands against an accepted call
-passed : (b₁ b₂ b₃ : Bool) (cell : ℕ) → (b₂ ≡ true → busy < cell) →
-    cond b₁ bad_frame (cond b₂ cell (cond b₃ row_full cell)) ≤ busy →
-    (b₁ ≡ false) × (b₂ ≡ false) × (b₃ ≡ false)
-passed true b₂ b₃ cell h low = absurd (omega arith)
-passed false true b₃ cell h low = absurd (omega (arith, h refl))
-passed false false true cell h low = absurd (omega arith)
-passed false false false cell h low = (refl, refl, refl)
+-- the order of refusals, over its tests
+abbrev in_order : Bool → Bool → Result ℕ Refusal → Result ℕ Refusal
+in_order past full cell = cond past (Err BadFrame) (result_and cell (cond full (Err RowFull) cell))
+
+-- no test stands against an accepted call
+record Passed (past full : Bool) (cell : Result ℕ Refusal) : Type 0 where
+  pub state : ℕ
+  pub frame : past ≡ false
+  pub table : cell ≡ Ok state
+  pub room : full ≡ false
+  pub next : in_order past full cell ≡ Ok state
+
+passed : (past full : Bool) (cell : Result ℕ Refusal) → is_ok (in_order past full cell) ≡ true → Passed past full cell
+passed true full cell e = clash e refl
+passed false full (Err r) e = clash e refl
+passed false true (Ok state) e = clash e refl
+passed false false (Ok state) e = record { state = state; frame = refl; table = refl; room = refl; next = refl }
 
 pub accepted : (states : List ℕ) (call : Call) → accepts states call ≡ true → Acceptance states call
 unfolding accepts verdict_of
 accepted states call e =
-    let cell = cell_of states call in
     let full = is_put call.event && leb held (held_in states) in
-    let tests = passed (leb frames call.frame) (ltb busy cell) full cell (ltb-true busy cell) (leb-true _ busy e) in
+    let tests = passed (leb frames call.frame) full (cell_of states call) e in
     record {
-      small = leb-false frames call.frame tests.0;
-      next = rw (tests.0, tests.1, tests.2);
-      allowed = ltb-false busy cell tests.1;
-      room = λ put. leb-false held (held_in states) (rw put at tests.2);
+      small = leb-false frames call.frame tests.frame;
+      state = tests.state;
+      next = tests.next;
+      allowed = tests.table;
+      known =
+          MatchResult-at_ok (λ next. next ≤ busy) (λ r. refusal_place r ≡ 0) tests.state tests.table
+          (entries call.event (state_of states call.frame));
+      room = λ put. leb-false held (held_in states) (rw put at tests.room);
     }
+
+-- and what refusal says
+pub record Rejection (states : List ℕ) (call : Call) : Type 0 where
+  pub reason : Refusal
+  pub is : verdict_of states call ≡ Err reason
+
+rejected_as : (v : Result ℕ Refusal) → is_ok v ≡ false → (r : Refusal) × (v ≡ Err r)
+rejected_as (Ok state) e = clash refl e
+rejected_as (Err r) e = (r, refl)
+
+pub rejected : (states : List ℕ) (call : Call) → accepts states call ≡ false → Rejection states call
+unfolding accepts
+rejected states call e =
+    let found = rejected_as (verdict_of states call) e in
+    record { reason = found.0; is = found.1 }
+
+-- A1: a refused call has no place
+placeless : (past full : Bool) (cell : Result ℕ Refusal) → MatchResult cell (λ s. s ≤ busy) (λ r. refusal_place r ≡ 0) →
+    IfErr (in_order past full cell) (λ r. refusal_place r ≡ 0)
+placeless true full cell h = refl
+placeless false full (Err r) h = h
+placeless false true (Ok state) h = refl
+placeless false false (Ok state) h = tt
+
+pub verdict_placeless : (states : List ℕ) (call : Call) → IfErr (verdict_of states call) (λ r. refusal_place r ≡ 0)
+unfolding verdict_of
+verdict_placeless states call =
+    placeless (leb frames call.frame) (is_put call.event && leb held (held_in states)) (cell_of states call)
+    (entries call.event (state_of states call.frame))
+
+-- A1: no refusal's number is 0, which stands for "no refusal"
+refusal_some : (r : Refusal) → eqb (refusal_number r) 0 ≡ false
+refusal_some r = grind arith
+
+pub number_ok : {A : Type 0} (v : Result A Refusal) → eqb (number_in v) 0 ≡ is_ok v
+number_ok (Ok a) = refl
+number_ok (Err r) = refusal_some r
 
 pub held_bit_absent : held_bit absent ≡ 0
 unfolding held_bit

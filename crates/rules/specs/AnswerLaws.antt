@@ -1,16 +1,23 @@
--- A refusal is no acceptance, and two refusals that are equal have one number and one place.
-use Rattle.std.specs.Prelude.{ℕ, ◌≡◌, refl}
-use Rattle.std.proofs.Common.{arith}
-use Rattle.rules.specs.Refusals.{when_accepted}
-use Rattle.rules.specs.declared.Refusal.{Refusal}
-use Rattle.rules.specs.declared.Answer.{Answer}
-use Rattle.rules.specs.declared.Answer.TheVariants.{Accepted, Refused}
+-- A refusal is no acceptance, and asking twice is asking once; what an answer that gives something says.
+use Rattle.std.specs.Prelude.{ℕ, ◌≡◌, refl, Result, Ok, Err}
+use Rattle.std.proofs.Common.{arith, sym}
+use Rattle.rules.specs.Refusals.{Answer, accepted, when_accepted, giving}
+use Rattle.rules.specs.declared.refusal.Refusal.{Refusal}
 
-pub not_accepted : {A : Type 0} {r : Refusal} → Refused r ≡ Accepted → A
+pub not_accepted : {A B : Type 0} {r : Refusal} {b : B} → ◌≡◌ {A = Result B Refusal} (Err r) (Ok b) → A
 not_accepted e = let z : ◌≡◌ {A = ℕ} 0 1 = cc in absurd (omega arith)
 
 -- asking twice whether a call was accepted is asking once
 pub accepted_twice : {A : Type 0} (answer : Answer) (a b : A)
     → when_accepted answer (when_accepted answer a b) b ≡ when_accepted answer a b
-accepted_twice Accepted a b = refl
-accepted_twice (Refused r) a b = refl
+accepted_twice (Ok u) a b = refl
+accepted_twice (Err r) a b = refl
+
+-- what is answered says whether it was accepted, and what was given
+pub given : {A : Type 0} {a b : A} (answer : Answer) → giving answer a ≡ Ok b → (answer ≡ accepted) × (a ≡ b)
+given (Ok u) e = (refl, cc)
+given (Err x) e = not_accepted e
+
+pub not_given : {A : Type 0} {x : Refusal} (answer : Answer) (a : A) → giving answer a ≡ Err x → answer ≡ Err x
+not_given (Ok u) a e = not_accepted (sym e)
+not_given {x = x} (Err y) a e = let same : y ≡ x = cc in rw same

@@ -1,10 +1,10 @@
 -- Where the first bad page stands, and what that says of the refusal (rule R3).
-use Rattle.std.specs.Prelude.{ℕ, suc, ◌+◌, ◌≤◌, ◌<◌, cond, ◌≡◌, refl, List, [], ◌∷◌, leb, length, drop, get_or}
+use Rattle.std.specs.Prelude.{ℕ, suc, ◌+◌, ◌≤◌, ◌<◌, cond, Err, ◌≡◌, refl, List, [], ◌∷◌, leb, length, drop, get_or}
 use Rattle.std.proofs.Common.{arith, drop_of_length-le, drop-cons, add-one, le-leb}
 use Rattle.std.proofs.lemmas.Bool.{lt-leb}
 use Rattle.rules.specs.Limits.{pages}
-use Rattle.rules.specs.Refusals.{first_bad_page, refusal, bad_page}
-use Rattle.rules.specs.declared.Answer.{Answer}
+use Rattle.rules.specs.Refusals.{Answer, first_bad_page}
+use Rattle.rules.specs.declared.refusal.Refusal.TheVariants.{BadPage}
 use Rattle.rules.specs.Cases.{by_cases}
 
 -- the index of the first bad page, or of the end; `i` references stand before these
@@ -13,7 +13,7 @@ first_bad i [] = i
 first_bad i (p ∷ trace) = cond (leb pages p) i (first_bad (suc i) trace)
 
 pub first_bad_found : (i : ℕ) (trace : List ℕ) (rest : Answer) → first_bad i trace < i + length trace
-    → first_bad_page i trace rest ≡ refusal bad_page (first_bad i trace)
+    → first_bad_page i trace rest ≡ Err (BadPage (first_bad i trace))
 unfolding first_bad first_bad_page
 first_bad_found i [] rest h = absurd (omega arith)
 first_bad_found i (p ∷ trace) rest h =

@@ -1,7 +1,9 @@
 -- What all other crates share.
 --
--- What a reader must believe: the limits, the refusals and what an answer says, each number once and by name; lists of numbers.
+-- What a reader must believe: the limits, the policies, the refusals and what an answer says, each number once and by name;
+-- lists of numbers.
 pub mod Limits
+pub mod Policies
 pub mod Refusals
 pub mod Lists
 pub mod Told

@@ -5,11 +5,19 @@ use native.Mathlib.Omega.{arith}
 use native.Mathlib.Numerals.{add-one}
 use mathlib.Core.Path.{◌≡◌, refl, ◌∙◌, ap}
 use mathlib.Core.List.{List}
+use mathlib.Core.Bool.{false}
 use lib.Dec.{eqb}
 use lib.ListN.{length, get_or}
-use borrow.Author.Tests.{eq-eqb, ne_eqb}
+use borrow.Author.Tests.{ne_eqb}
 use Rattle.rules.specs.Limits.{lru, lfu}
 use Rattle.rules.specs.Cases.{by_cases}
+use Rattle.rules.specs.Policies.{policy_number, PolicyOf}
+use Rattle.rules.specs.declared.policy.Policy.{Policy}
+use Rattle.rules.specs.declared.policy.Policy.TheVariants.{Lru, Lfu, Opt}
+use Rattle.rules.specs.declared.refusal.Refusal.{Refusal}
+use Rattle.std.specs.Prelude.{Result, Ok, Err, ◌⊎◌}
+use Rattle.std.proofs.Common.{inl, inr}
+use Rattle.std.specs.Result.{result_unwrap_or}
 use Rattle.kept.specs.Entries.{entry, always, larger}
 use Rattle.kept.specs.Rankings.{shown_of}
 use Rattle.step.specs.declared.Step.{Step}
@@ -41,20 +49,22 @@ unfolding counts_kept counts_then rank_next rank_now
 kept_is policy page near next counts = by_cases (eqb policy lfu) (λ e. rw e) (λ e. rw e)
 
 -- LFU looks the count up and keeps one more; OPT was told
-pub ranking_counted : {policy page near next count more : ℕ} {counts counts' : List ℕ} → policy ≡ lfu →
-    count ≡ count_in counts page → more ≡ one_more count → counts' ≡ count_stored page more counts →
-    Ranking policy page near next counts counts' (record { now = count; then = more })
+pub ranking_counted : {page near next count more : ℕ} {counts counts' : List ℕ} → count ≡ count_in counts page
+    → more ≡ one_more count → counts' ≡ count_stored page more counts
+    → Ranking lfu page near next counts counts' (record { now = count; then = more })
 unfolding rank_now rank_next counts_kept
-ranking_counted {policy} is count-is more-is kept =
-    let lfu-is = eq-eqb policy lfu is in
-    record { now_is = rw lfu-is count-is; then_is = rw lfu-is more-is; counts_are = rw lfu-is kept }
+ranking_counted count-is more-is kept = record { now_is = count-is; then_is = more-is; counts_are = kept }
 
-pub ranking_told : {policy page near next : ℕ} {counts : List ℕ} → (policy ≡ lfu → ⊥) →
-    Ranking policy page near next counts counts (record { now = near; then = next })
+pub ranking_told : {policy page near next : ℕ} {counts : List ℕ} → eqb policy lfu ≡ false
+    → Ranking policy page near next counts counts (record { now = near; then = next })
 unfolding rank_now rank_next counts_kept
-ranking_told {policy} other =
-    let told = ne_eqb policy lfu other in
-    record { now_is = rw told; then_is = rw told; counts_are = rw told }
+ranking_told other = record { now_is = rw other; then_is = rw other; counts_are = rw other }
+
+pub referred_lru : {page near next n k : ℕ} {places depths counts places' depths' : List ℕ} {r : Step}
+    → Tallied always k (entry (λ p. 0) page) (entry (λ p. 0) page) n places depths places' depths' r
+    → Referred lru page near next n k places depths counts places' depths' counts r
+unfolding shown_of rank_before rank_then counts_then
+referred_lru t = record { tallied = t; counts_are = refl }
 
 module _ {policy page near next n k : ℕ} {places depths counts places' depths' : List ℕ} {r : Step} where
   pub ranked : {ranks : Ranks} {old new : ℕ} {counts' : List ℕ} → Ranking policy page near next counts counts' ranks
@@ -70,22 +80,42 @@ module _ {policy page near next n k : ℕ} {places depths counts places' depths'
         counts_are = rw (← looked.now_is, ← looked.then_is) looked.counts_are;
       }
 
-  pub referred_lru : policy ≡ lru
-      → Tallied always k (entry (λ p. 0) page) (entry (λ p. 0) page) n places depths places' depths' r
-      → Referred policy page near next n k places depths counts places' depths' counts r
-  unfolding shown_of rank_before rank_then counts_then
-  referred_lru is t =
-      record { tallied = rw (eq-eqb policy lru is) t; counts_are = rw (ne_eqb policy lfu (λ q. omega arith)) }
-
-  pub referred_ranked : {counts' : List ℕ} → (policy ≡ lru → ⊥)
+  pub referred_ranked : {counts' : List ℕ} → eqb policy lru ≡ false
       → Ranked policy page near next n k places depths counts places' depths' counts' r
       → Referred policy page near next n k places depths counts places' depths' counts' r
   unfolding shown_of rank_before rank_then
   referred_ranked other t =
-      record {
-        tallied = rw (ne_eqb policy lru other) t.tallied;
-        counts_are = t.counts_are ∙ kept_is policy page near next counts;
-      }
+      record { tallied = rw other t.tallied; counts_are = t.counts_are ∙ kept_is policy page near next counts }
+
+-- the other policies
+pub not_lru : {p : Policy} → (p ≡ Lfu) ⊎ (p ≡ Opt) → eqb (policy_number p) lru ≡ false
+not_lru (inl e) = rw e
+not_lru (inr e) = rw e
+
+pub not_lfu : {p : Policy} → (p ≡ Lru) ⊎ (p ≡ Opt) → eqb (policy_number p) lfu ≡ false
+not_lfu (inl e) = rw e
+not_lfu (inr e) = rw e
+
+-- a number and the policy that it is taken as: the tests for LRU and LFU say the same of both
+pub record TakenAs (number : ℕ) (policy : Policy) : Type 0 where
+  pub lru_is : eqb number lru ≡ eqb (policy_number policy) lru
+  pub lfu_is : eqb number lfu ≡ eqb (policy_number policy) lfu
+
+pub taken_as : (number : ℕ) (r : Result Policy Refusal) → PolicyOf number r → TakenAs number (result_unwrap_or r Opt)
+taken_as number (Ok policy) is = record { lru_is = rw is; lfu_is = rw is }
+taken_as number (Err r) none =
+    record {
+      lru_is = ne_eqb number lru (λ q. omega (arith, q, none.1));
+      lfu_is = ne_eqb number lfu (λ q. omega (arith, q, none.1));
+    }
+
+pub referred_as : {number page near next n k : ℕ} {places depths counts places' depths' counts' : List ℕ} {r : Step}
+    {policy : Policy} → TakenAs number policy
+    → Referred (policy_number policy) page near next n k places depths counts places' depths' counts' r
+    → Referred number page near next n k places depths counts places' depths' counts' r
+unfolding shown_of rank_before rank_now rank_then rank_next counts_then
+referred_as taken done =
+    record { tallied = rw (taken.lru_is, taken.lfu_is) done.tallied; counts_are = rw taken.lfu_is done.counts_are }
 
 module _ {policy page near ahead n k : ℕ} {places depths counts places' depths' counts' : List ℕ} {s : Step}
     (done : Referred policy page near ahead n k places depths counts places' depths' counts' s) where

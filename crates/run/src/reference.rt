@@ -3,37 +3,29 @@
 // called in one place only, so that the compiler can put it into the loop.
 ghost use Rattle.std.specs.Prelude.{◌-◌, ◌≡◌, get_or};
 ghost use Rattle.kept.specs.Entries.{entry as «entry_of», always};
-ghost use Rattle.run.specs.Referred.{count_in, count_stored, one_more as «one_more_of», Ranking, Tallied, Ranked, Referred};
+ghost use Rattle.run.specs.Referred.{count_in, count_stored, Ranking, Tallied, Ranked, Referred};
 ghost use Rattle.run.specs.ReferredAll.{run_memory, ReferredAll};
+ghost use Rattle.rules.specs.Policies.{policy_number};
 
 use crate::counting::count_depth;
 use kept::{DEPTHS, entry};
-use rules::{CAPACITIES, LFU, LRU, PAGES};
+use rules::{CAPACITIES, PAGES, Policy};
 use step::{Step, place, shift};
 
-const LARGEST_RANK: u16 = 65535;
-
 // How often a page was referenced; a number that is no page never was.
+#[tactic(auto, unfolding(crate::specs::Referred::count_in))]
 fn count_of(counts: &[u16; PAGES as usize], page: u16) -> u16
     ensures { result ≡ count_in counts.now page }
 {
     if page < PAGES {
-        return counts[page as usize];
+        counts[page as usize]
+    } else {
+        0
     }
-    0
-}
-
-// One more, as far as the number goes.
-fn more(count: u16) -> u16
-    ensures { result ≡ «one_more_of» count }
-{
-    if count < LARGEST_RANK {
-        return count + 1;
-    }
-    LARGEST_RANK
 }
 
 // Keeps the count of a page, and of nothing else.
+#[tactic(auto, unfolding(crate::specs::Referred::count_stored))]
 fn keep_count(counts: &mut [u16; PAGES as usize], page: u16, count: u16)
     ensures { counts.new ≡ count_stored page count counts.old }
 {
@@ -42,8 +34,17 @@ fn keep_count(counts: &mut [u16; PAGES as usize], page: u16, count: u16)
     }
 }
 
+// A reference: its page, how near it is itself, counted from the trace's end, and how near the next one to the page is. OPT
+// alone is told the last two.
+#[derive(Clone, Copy, Debug, PartialEq, Eq)]
+struct Reference {
+    page: u16,
+    near: u16,
+    next: u16,
+}
+
 // The rank of the referenced page: now, and from this reference on.
-#[derive(Clone, Copy)]
+#[derive(Clone, Copy, Debug, PartialEq, Eq)]
 struct Ranks {
     now: u16,
     then: u16,
@@ -51,27 +52,24 @@ struct Ranks {
 
 // LFU ranks by the count, and keeps one more; OPT was told both. One test of the policy does for all three: OPT under strong
 // locality took 13.3 ns a reference, and 14.1 with a test for each.
-fn ranks_of(
-    policy: u8,
-    page: u16,
-    near: u16,
-    next: u16,
-    counts: &mut [u16; PAGES as usize],
-) -> Ranks
-    ensures { Ranking policy page near next counts.old counts.new result }
+fn ranks_of(policy: Policy, reference: Reference, counts: &mut [u16; PAGES as usize]) -> Ranks
+    ensures { Ranking (policy_number policy) reference.page reference.near reference.next
+        counts.old counts.new result }
 {
-    if policy == LFU {
-        let count = count_of(counts, page);
-        let one_more = more(count);
-        keep_count(counts, page, one_more);
-        return Ranks {
-            now: count,
-            then: one_more,
-        };
-    }
-    Ranks {
-        now: near,
-        then: next,
+    match policy {
+        Policy::Lfu => {
+            let count = count_of(counts, reference.page);
+            let one_more = count.saturating_add(1);
+            keep_count(counts, reference.page, one_more);
+            Ranks {
+                now: count,
+                then: one_more,
+            }
+        }
+        Policy::Lru | Policy::Opt => Ranks {
+            now: reference.near,
+            then: reference.next,
+        },
     }
 }
 
@@ -93,23 +91,21 @@ fn refer_unranked(
 
 // Under LFU and OPT the page is placed by its rank.
 fn refer_ranked(
-    policy: u8,
-    page: u16,
-    near: u16,
-    next: u16,
+    policy: Policy,
+    reference: Reference,
     n: usize,
     k: usize,
     places: &mut [u32; CAPACITIES],
     depths: &mut [u32; DEPTHS],
     counts: &mut [u16; PAGES as usize],
 ) -> Step
-    ensures { Ranked policy page near next n k
+    ensures { Ranked (policy_number policy) reference.page reference.near reference.next n k
         places.old depths.old counts.old
         places.new depths.new counts.new result }
 {
-    let ranks = ranks_of(policy, page, near, next, counts);
-    let old = entry(ranks.now, page);
-    let new = entry(ranks.then, page);
+    let ranks = ranks_of(policy, reference, counts);
+    let old = entry(ranks.now, reference.page);
+    let new = entry(ranks.then, reference.page);
     let s = place(places, n, k, old, new);
     count_depth(depths, s.depth);
     s
@@ -117,49 +113,42 @@ fn refer_ranked(
 
 // A reference to a page, in a list of `n` places that may grow to `k`.
 fn refer(
-    policy: u8,
-    page: u16,
-    near: u16,
-    next: u16,
+    policy: Policy,
+    reference: Reference,
     n: usize,
     k: usize,
     places: &mut [u32; CAPACITIES],
     depths: &mut [u32; DEPTHS],
     counts: &mut [u16; PAGES as usize],
 ) -> Step
-    ensures { Referred policy page near next n k
+    ensures { Referred (policy_number policy) reference.page reference.near reference.next n k
         places.old depths.old counts.old
         places.new depths.new counts.new result }
 {
-    if policy == LRU {
-        return refer_unranked(page, n, k, places, depths);
+    match policy {
+        Policy::Lru => refer_unranked(reference.page, n, k, places, depths),
+        Policy::Lfu | Policy::Opt => refer_ranked(policy, reference, n, k, places, depths, counts),
     }
-    refer_ranked(policy, page, near, next, n, k, places, depths, counts)
 }
 
 // What was found ahead for the reference `i`, or 0 where nothing was looked for.
 fn next_at(nexts: &[u16], i: usize) -> u16
     ensures { result ≡ get_or nexts.now i 0 }
 {
-    if i < nexts.len() {
-        return nexts[i];
-    }
-    0
+    if i < nexts.len() { nexts[i] } else { 0 }
 }
 
 // How many references are left from the reference `i` on.
 fn left_at(left: u16, i: usize) -> u16
     ensures { result ≡ left - i }
 {
-    if i < left as usize {
-        return left - (i as u16);
-    }
-    0
+    usize::from(left).saturating_sub(i) as u16
 }
 
 // References to pages, one after the other, in a list of `n` places that may grow to `k`: each depth is counted, and the
 // answer is the last one. Where the policy looks ahead, `left` is how many references the trace has from the first of these
-// on, and `nexts` has each one's next rank.
+// on, and `nexts` has each one's next rank. A number that no policy has is taken as OPT's. What
+// is kept is lent in its parts, as C lends a session.
 pub fn refer_all(
     policy: u8,
     k: usize,
@@ -175,18 +164,18 @@ pub fn refer_all(
         (run_memory n.old places.old depths.old counts.old)
         (run_memory n.new places.new depths.new counts.new) result }
 {
+    let policy = Policy::try_from(policy).unwrap_or(Policy::Opt);
     let mut length = *n;
     let mut depth = 0;
-    let mut i = 0;
-    while i < pages.len() {
-        let near = left_at(left, i);
-        let next = next_at(nexts, i);
-        let s = refer(
-            policy, pages[i], near, next, length, k, places, depths, counts,
-        );
+    for (i, &page) in pages.iter().enumerate() {
+        let reference = Reference {
+            page,
+            near: left_at(left, i),
+            next: next_at(nexts, i),
+        };
+        let s = refer(policy, reference, length, k, places, depths, counts);
         length = s.length;
         depth = s.depth;
-        i += 1;
     }
     *n = length;
     depth

@@ -1,11 +1,9 @@
 -- The demands, of a session's own answers (docs/RULES.md, D1 to D3, A3, A5, A6): whatever history gives the session.
-use Rattle.std.specs.Prelude.{ℕ, ◌+◌, ◌≤◌, ◌≡◌, List, [], map, reverse, length, take, get_or}
-use Rattle.std.proofs.Common.{arith, sym, ◌∙◌, le-leb}
-use Rattle.rules.specs.Refusals.{when_accepted}
+use Rattle.std.specs.Prelude.{ℕ, ◌+◌, ◌≤◌, ◌≡◌, List, [], map, reverse, length, take, get_or, Result, Ok, Err}
+use Rattle.std.proofs.Common.{arith, sym, ◌∙◌}
+use Rattle.rules.specs.Refusals.{giving}
 use Rattle.rules.specs.Lists.{holds}
-use Rattle.rules.specs.declared.Refusal.{Refusal}
-use Rattle.rules.specs.declared.Answer.{Answer}
-use Rattle.rules.specs.declared.Answer.TheVariants.{Accepted, Refused}
+use Rattle.rules.specs.declared.refusal.Refusal.{Refusal}
 use Rattle.theory.specs.Policy.{policy_of}
 use Rattle.theory.specs.Plain.{cache_after, hits_at}
 use Rattle.theory.specs.OnePass.{within}
@@ -13,48 +11,32 @@ use Rattle.theory.proofs.Order.{policy_order}
 use Rattle.theory.proofs.Theorem.{list_is_cache, hit_by_depth, hits_and_misses, at_most}
 use Rattle.kept.specs.Shown.{places_of, pages_shown, shown_back, zero_past}
 use Rattle.session.specs.declared.Session.{Session}
-use Rattle.session.specs.declared.Depth.TheVariants as answers
-use Rattle.session.specs.declared.Depth.{Depth}
-use Rattle.session.specs.declared.Listing.{Listing}
-use Rattle.session.specs.declared.Asked.TheVariants.{Number}
-use Rattle.session.specs.History.{accepted_of, list_now, depth_of, reference_answer, capacity_answer}
+use Rattle.kept.specs.declared.shown.Listing.{Listing}
+use Rattle.session.specs.History.{accepted_of, list_now, reference_answer, capacity_answer}
 use Rattle.session.specs.Lent.{Lent}
 use Rattle.session.specs.Memory.{Value, Places, Depths, Given}
 use Rattle.session.specs.AnyMemory.{depth_in, after_reference}
-use Rattle.session.specs.Answers.{Referring, depth_as}
-use Rattle.session.specs.Reads.{ListRead, ReferencesRead, HitsRead, MissesRead, asked_as}
+use Rattle.session.specs.Answers.{Referring}
+use Rattle.session.specs.Reads.{ListRead, ReferencesRead, HitsRead, MissesRead}
+use Rattle.rules.specs.AnswerLaws.{given, not_given}
 
 -- A3: a reference that was answered with a refusal leaves all memory as it was, whatever it was
-pub referenced_keeps : {before after : Lent} {page : ℕ} {r : Depth} {x : Refusal} → Referring before page after r
-    → r ≡ answers.Refused x → after ≡ before
+pub referenced_keeps : {before after : Lent} {page : ℕ} {r : Result ℕ Refusal} {x : Refusal} → Referring before page after r
+    → r ≡ Err x → after ≡ before
 unfolding after_reference
-referenced_keeps {before} {after} {page} {r} {x} f e =
-    by_answer (reference_answer before.value.references page) _ f.depth_is f.memory_is
-  where
-    by_answer : (a : Answer) (then : Lent) → r ≡ depth_as a (depth_in before page) → after ≡ when_accepted a then before
-        → after ≡ before
-    by_answer Accepted then h left =
-        let never : answers.Refused x ≡ answers.Accepted (depth_in before page) = sym e ∙ h in
-        let z : ◌≡◌ {A = ℕ} 0 1 = cc in
-        absurd (omega arith)
-    by_answer (Refused y) then h left = left
+referenced_keeps {before} {page = page} f e =
+    f.memory_is ∙ rw (not_given (reference_answer before.value.references page) (depth_in before page) (sym f.depth_is ∙ e))
 
 -- what a reference answers says whether it was accepted
-module _ {policy k page : ℕ} {calls : List ℕ} {before after : Lent} {r : Depth}
+module _ {policy k page : ℕ} {calls : List ℕ} {before after : Lent} {r : Result ℕ Refusal}
     (g : Given policy k calls before) (f : Referring before page after r) where
   -- D3: a depth is a hit at C exactly if the plain cache of C frames held the page just before the reference
-  pub referenced_hit : {d : ℕ} → r ≡ answers.Accepted d → (c : ℕ) → 1 ≤ c → c ≤ k
+  pub referenced_hit : {d : ℕ} → r ≡ Ok d → (c : ℕ) → 1 ≤ c → c ≤ k
       → within d c ≡ holds page (cache_after (policy_of policy) c (accepted_of calls) [])
-  referenced_hit {d} e c low high =
-      rw (depth_is (reference_answer (length (accepted_of calls)) page) (f.answer policy k calls g))
+  referenced_hit e c low high =
+      let depth_is = given (reference_answer (length (accepted_of calls)) page) (sym (f.answer policy k calls g) ∙ e) in
+      rw (← depth_is.1)
       (hit_by_depth (policy_of policy) (policy_order policy) c k low high page (accepted_of calls) [])
-    where
-      depth_is : (a : Answer) → r ≡ depth_as a (depth_of policy k calls page) → d ≡ depth_of policy k calls page
-      depth_is Accepted h = let same : answers.Accepted d ≡ answers.Accepted (depth_of policy k calls page) = sym e ∙ h in cc
-      depth_is (Refused x) h =
-          let never : answers.Accepted d ≡ answers.Refused x = sym e ∙ h in
-          let z : ◌≡◌ {A = ℕ} 0 1 = cc in
-          absurd (omega arith)
 
 module _ {policy k : ℕ} {calls : List ℕ} {s : Session} (v : Value policy k calls s) where
   -- of a list that was read: its length is at most K, it shows 0 past it, and (D3) the pages in its first C places are those
@@ -82,17 +64,15 @@ module _ {policy k : ℕ} {calls : List ℕ} {s : Session} (v : Value policy k c
   -- of numbers that were read at a capacity: the hits are those of a whole trace with the same references, and (A5) hits and
   -- misses add up to the references accepted
   module _ {depths : List ℕ} (tallied : Depths policy k calls depths) {c h : ℕ} (low : 1 ≤ c) (high : c ≤ k)
-      (hits : HitsRead s depths c (Number h)) where
-    number_is : {x y : ℕ} → Number x ≡ asked_as (capacity_answer k c) y → x ≡ y
-    number_is {x} {y} e =
-        let same : Number x ≡ Number y = e ∙ rw (le-leb 1 c low, le-leb c k high) in
-        cc
+      (hits : HitsRead s depths c (Ok h)) where
+    number_is : {x y : ℕ} → Ok x ≡ giving (capacity_answer k c) y → x ≡ y
+    number_is e = sym (given (capacity_answer k c) (sym e)).1
 
     pub session_is_count : (trace : List ℕ) → accepted_of calls ≡ reverse trace → h ≡ hits_at policy c trace
     unfolding hits_at
     session_is_count trace e = number_is (hits.hits_are policy k calls v tallied) ∙ rw e
 
-    pub session_adds_up : {m n : ℕ} → MissesRead s depths c (Number m) → ReferencesRead s n → h + m ≡ n
+    pub session_adds_up : {m n : ℕ} → MissesRead s depths c (Ok m) → ReferencesRead s n → h + m ≡ n
     session_adds_up misses references =
         omega (
           arith,

@@ -1,13 +1,16 @@
 -- The reads' promises: what a read makes of any memory is, in memory that a start and calls gave, what the rules say; and
 -- each answer of the code is what it makes of the memory.
 use Prim.Native.Nat.{ℕ, ◌≤◌, ◌<◌, min}
-use Rattle.std.proofs.Common.{arith, ◌∙◌, le-leb, leb-true}
-use Rattle.std.specs.Prelude.{◌≡◌, leb}
+use Rattle.std.proofs.Common.{arith, sym, ◌-◌, ◌∙◌, le-leb, leb-true}
+use Rattle.std.specs.Prelude.{◌≡◌, leb, Result, Ok, Err}
 use Rattle.std.proofs.Math.Path.{ap}
 use mathlib.Core.List.{List, []}
 use Rattle.std.proofs.lemmas.Bool.{lt-leb}
 use Rattle.rules.specs.Limits.{capacities}
-use Rattle.rules.specs.Refusals.{bad_capacity}
+use Rattle.rules.specs.Refusals.{Answer, giving}
+use Rattle.rules.specs.AnswerLaws.{given}
+use Rattle.rules.specs.declared.refusal.Refusal.{Refusal}
+use Rattle.rules.specs.declared.refusal.Refusal.TheVariants.{BadCapacity}
 use Rattle.rules.specs.Cases.{by_cases}
 use Rattle.rules.specs.declared.Page.{Page}
 use Rattle.theory.specs.Policy.{policy_of}
@@ -18,28 +21,24 @@ use Rattle.kept.specs.Memory.{length_after, depths_after}
 use Rattle.kept.specs.Shown.{shown_places}
 use Rattle.run.specs.RunLaws.{run_shown}
 use Rattle.session.specs.declared.Session.{Session}
-use Rattle.session.specs.declared.Asked.{Asked}
-use Rattle.session.specs.declared.Asked.TheVariants as asked
 use Rattle.session.specs.History.{accepted_of, capacity_answer, hits_now, misses_now}
 use Rattle.session.specs.Memory.{Value, Depths}
 use Rattle.session.specs.AnyMemory.{hits_in, misses_in}
-use Rattle.session.specs.Reads.{ListRead, HitsRead, MissesRead, asked_as}
+use Rattle.session.specs.Reads.{ListRead, HitsRead, MissesRead}
 use Rattle.session.specs.ReferLaws.{start_bounds, accepted_below}
 
 -- 7 is answered exactly if the capacity is not 1 to K
-pub low_refused : (k c : ℕ) (n : ℕ) → c < 1
-    → asked.Refused (record { number = bad_capacity; place = 0 }) ≡ asked_as (capacity_answer k c) n
+pub low_refused : (k c : ℕ) (n : ℕ) → c < 1 → Err BadCapacity ≡ giving (capacity_answer k c) n
 low_refused k c n h = rw (lt-leb 1 c h)
 
-pub high_refused : (k c : ℕ) (n : ℕ) → 1 ≤ c → k < c
-    → asked.Refused (record { number = bad_capacity; place = 0 }) ≡ asked_as (capacity_answer k c) n
+pub high_refused : (k c : ℕ) (n : ℕ) → 1 ≤ c → k < c → Err BadCapacity ≡ giving (capacity_answer k c) n
 high_refused k c n l h = rw (le-leb 1 c l, lt-leb c k h)
 
-pub within_answered : (k c : ℕ) (m n : ℕ) → 1 ≤ c → c ≤ k → m ≡ n → asked.Number m ≡ asked_as (capacity_answer k c) n
+pub within_answered : (k c : ℕ) (m n : ℕ) → 1 ≤ c → c ≤ k → m ≡ n → Ok m ≡ giving (capacity_answer k c) n
 within_answered k c m n l h e = rw (le-leb 1 c l, le-leb c k h, e)
 
 -- only at a capacity from 1 to K does the number matter
-same_asked : (k c m n : ℕ) → (1 ≤ c → c ≤ k → m ≡ n) → asked_as (capacity_answer k c) m ≡ asked_as (capacity_answer k c) n
+same_asked : (k c m n : ℕ) → (1 ≤ c → c ≤ k → m ≡ n) → giving (capacity_answer k c) m ≡ giving (capacity_answer k c) n
 same_asked k c m n same =
     by_cases (leb 1 c)
     (λ l. by_cases (leb c k) (λ h. rw (l, h, same (leb-true 1 c l) (leb-true c k h))) (λ h. rw (l, h)))
@@ -61,8 +60,8 @@ module _ {policy k : ℕ} {calls : List ℕ} {s : Session} {depths : List ℕ} (
   misses_in_law =
       omega (arith, hits_in_law, v.references_are, hits_and_misses (policy_of policy) c (accepted_of calls) [])
 
-module _ {s : Session} {depths : List ℕ} {c : ℕ} {r : Asked} where
-  pub hits_read : r ≡ asked_as (capacity_answer s.k c) (hits_in depths c) → HitsRead s depths c r
+module _ {s : Session} {depths : List ℕ} {c : ℕ} {r : Result ℕ Refusal} where
+  pub hits_read : r ≡ giving (capacity_answer s.k c) (hits_in depths c) → HitsRead s depths c r
   hits_read e =
       record {
         answered = e;
@@ -71,7 +70,7 @@ module _ {s : Session} {depths : List ℕ} {c : ℕ} {r : Asked} where
             e ∙ rw v.k_is (same_asked k c (hits_in depths c) (hits_now policy c calls) (hits_in_law v d c));
       }
 
-  pub misses_read : r ≡ asked_as (capacity_answer s.k c) (misses_in s depths c) → MissesRead s depths c r
+  pub misses_read : r ≡ giving (capacity_answer s.k c) (misses_in s depths c) → MissesRead s depths c r
   misses_read e =
       record {
         answered = e;
@@ -79,6 +78,14 @@ module _ {s : Session} {depths : List ℕ} {c : ℕ} {r : Asked} where
             λ policy k calls v d.
             e ∙ rw v.k_is (same_asked k c (misses_in s depths c) (misses_now policy c calls) (misses_in_law v d c));
       }
+
+-- the misses are what the hits leave of the references
+pub misses_from_hits : {s : Session} {depths : List ℕ} {c h m : ℕ} → HitsRead s depths c (Ok h) → m ≡ s.references - h
+    → MissesRead s depths c (Ok m)
+misses_from_hits {s} {depths} {c} {h} {m} hits e =
+    let g = given (capacity_answer s.k c) (sym hits.answered) in
+    let same : m ≡ misses_in s depths c = omega (arith, e, g.1) in
+    misses_read (ap Ok same ∙ sym (ap (λ (a : Answer). giving a (misses_in s depths c)) g.0))
 
 pub list_read : {s : Session} {places : List ℕ} {shown : List Page} → shown ≡ shown_places s.length places
     → ListRead s places (record { length = s.length; places = shown })

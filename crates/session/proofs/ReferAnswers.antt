@@ -1,26 +1,26 @@
 -- A reference's promise: what it makes of any memory is, in memory that a start and calls gave, what the rules say; and each
 -- answer of the code is what it makes of the memory.
-use Rattle.std.specs.Prelude.{ℕ, ◌≤◌, ◌<◌, ◌≡◌, refl, List, [], ◌∷◌, leb, length}
+use Rattle.std.specs.Prelude.{ℕ, ◌≤◌, ◌<◌, ◌≡◌, refl, List, [], ◌∷◌, leb, length, Result, Ok, Err}
 use Rattle.std.proofs.Common.{arith, sym, ◌∙◌, ap, subst₂}
 use borrow.Author.Tests.{le-leb, lt-leb}
 use Rattle.rules.specs.Limits.{references, pages}
-use Rattle.rules.specs.Refusals.{session_full, bad_page}
+use Rattle.rules.specs.Refusals.{giving}
+use Rattle.rules.specs.declared.refusal.Refusal.{Refusal}
+use Rattle.rules.specs.declared.refusal.Refusal.TheVariants.{SessionFull, BadPage}
 use Rattle.rules.specs.Cases.{by_cases}
 use Rattle.run.specs.ReferredAll.{run_memory, memory_then, memory_after, depth_after, ReferredAll}
 use Rattle.session.specs.declared.Session.{Session}
-use Rattle.session.specs.declared.Depth.{Depth}
-use Rattle.session.specs.declared.Depth.TheVariants as answers
 use Rattle.session.specs.History.{reference_answer, accepted_of, depth_of}
 use Rattle.session.specs.Lent.{Lent, lent_of}
 use Rattle.session.specs.Memory.{Given}
 use Rattle.session.specs.AnyMemory.{as_run, depth_in, advanced, lent_as, after_reference}
-use Rattle.session.specs.Answers.{Referring, depth_as}
+use Rattle.session.specs.Answers.{Referring}
 use Rattle.session.specs.ReferLaws.{three_ways, accepted_full, accepted_bad}
 use Rattle.session.proofs.SessionLaws.{accepted_depth, accepted_given}
 
 module _ {policy k : ℕ} {calls : List ℕ} {m : Lent} (g : Given policy k calls m) (page : ℕ) where
-  refer_answer : depth_as (reference_answer m.value.references page) (depth_in m page)
-      ≡ depth_as (reference_answer (length (accepted_of calls)) page) (depth_of policy k calls page)
+  refer_answer : giving (reference_answer m.value.references page) (depth_in m page)
+      ≡ giving (reference_answer (length (accepted_of calls)) page) (depth_of policy k calls page)
   unfolding depth_in
   refer_answer =
       rw g.value.references_are
@@ -28,7 +28,7 @@ module _ {policy k : ℕ} {calls : List ℕ} {m : Lent} (g : Given policy k call
       (λ room bad. rw (lt-leb references (length (accepted_of calls)) room, le-leb pages page bad))
       (λ room fine.
       rw (lt-leb references (length (accepted_of calls)) room, lt-leb pages page fine, g.value.policy_is)
-      (ap answers.Accepted (accepted_depth g page room fine))))
+      (ap Ok (accepted_depth g page room fine))))
 
   -- a refused reference is not part of the history: the same session stands, with one call more
   same_given : accepted_of (page ∷ calls) ≡ accepted_of calls → Given policy k (page ∷ calls) m
@@ -63,8 +63,8 @@ module _ {policy k : ℕ} {calls : List ℕ} {m : Lent} (g : Given policy k call
       (sym g.value.policy_is) (sym g.value.k_is) (accepted_given g page room fine)))
 
 -- what a reference makes of any memory is all that there is to show
-pub refers : {before after : Lent} {page : ℕ} {r : Depth}
-    → r ≡ depth_as (reference_answer before.value.references page) (depth_in before page) → after ≡ after_reference before page
+pub refers : {before after : Lent} {page : ℕ} {r : Result ℕ Refusal}
+    → r ≡ giving (reference_answer before.value.references page) (depth_in before page) → after ≡ after_reference before page
     → Referring before page after r
 refers {page = page} told left =
     record {
@@ -75,7 +75,7 @@ refers {page = page} told left =
     }
 
 -- a reference leaves the policy and K, in any memory
-pub policy_stays : {before after : Lent} {page : ℕ} {r : Depth} → Referring before page after r
+pub policy_stays : {before after : Lent} {page : ℕ} {r : Result ℕ Refusal} → Referring before page after r
     → (after.value.policy ≡ before.value.policy) × (after.value.k ≡ before.value.k)
 unfolding after_reference
 policy_stays {before} {page = page} f =
@@ -85,13 +85,13 @@ policy_stays {before} {page = page} f =
 
 module _ {m : Lent} {page : ℕ} where
   pub refer_full : references ≤ m.value.references
-      → Referring m page m (answers.Refused (record { number = session_full; place = 0 }))
+      → Referring m page m (Err SessionFull)
   unfolding after_reference
   refer_full h =
       refers (rw (le-leb references m.value.references h)) (rw (le-leb references m.value.references h))
 
   pub refer_bad : m.value.references < references → pages ≤ page
-      → Referring m page m (answers.Refused (record { number = bad_page; place = 0 }))
+      → Referring m page m (Err (BadPage 0))
   unfolding after_reference
   refer_bad h p =
       refers (rw (lt-leb references m.value.references h, le-leb pages page p))
@@ -102,9 +102,9 @@ pub refer_done : {s : Session} {page : ℕ} {places depths counts places' depths
     → s.references < references → page < pages
     → ReferredAll s.policy s.k (page ∷ []) (0 ∷ []) 0 (run_memory s.length places depths counts)
     (run_memory used places' depths' counts') d
-    → Referring (lent_of s places depths counts) page (lent_of (advanced s used) places' depths' counts') (answers.Accepted d)
+    → Referring (lent_of s places depths counts) page (lent_of (advanced s used) places' depths' counts') (Ok d)
 unfolding depth_in after_reference depth_after memory_after
 refer_done {s} {page} room fine done =
     refers
-    (rw (lt-leb references s.references room, lt-leb pages page fine) (ap answers.Accepted done.depth_is))
+    (rw (lt-leb references s.references room, lt-leb pages page fine) (ap Ok done.depth_is))
     (rw (lt-leb references s.references room, lt-leb pages page fine) (ap (lent_as s) done.memory_is))

@@ -2,17 +2,18 @@
 -- What is sound passes the other tests as well.
 use Prim.Native.Nat.{ℕ, zero, suc, ◌+◌, ◌-◌, ◌≤◌, ◌<◌}
 use native.Mathlib.Omega.{arith}
-use Rattle.std.specs.Prelude.{Bool, false, ◌&&◌, ◌≡◌, eqb, ltb, replicate}
+use Rattle.std.specs.Prelude.{false, ◌≡◌, eqb, ltb, replicate}
 use Rattle.std.proofs.Math.Bool.{true}
 use Rattle.std.proofs.Math.Path.{refl, sym}
 use Rattle.std.proofs.Common.{◌∙◌, take_all}
+use Rattle.std.proofs.lemmas.List.{get_or-map}
 use mathlib.Core.List.{List, [], ◌∷◌, map}
 use Rattle.std.proofs.Math.ListN.{length, get_or, length-map, get_or-append}
 use Rattle.std.proofs.Math.Seq.{get_or-append-add}
 use borrow.Author.Tests.{eqb-true, eqb-false, eq-eqb, ne_eqb, ltb-true, ltb-false, lt-ltb, le-ltb}
 use Rattle.rules.specs.Limits.{capacities, pages, opt, lru, lfu}
 use Rattle.rules.specs.Lists.{times}
-use Rattle.rules.specs.Cases.{by_cases, clash}
+use Rattle.rules.specs.Cases.{by_cases, and_left, and_right}
 use Rattle.rules.specs.AllBelow.{all_below, all_make}
 use Rattle.theory.specs.Policy.{policy_of}
 use Rattle.theory.specs.OnePass.{list_after}
@@ -74,12 +75,7 @@ module _ (rank : ℕ → ℕ) (l : List ℕ) where
   entry_at i h =
       get_or-append (map (entry rank) l) (replicate (capacities - length (map (entry rank) l)) 0) 0 i
       (omega (arith, length-map l (entry rank)))
-      ∙ mapped l i h
-    where
-      mapped : (l : List ℕ) (i : ℕ) → i < length l → get_or (map (entry rank) l) i 0 ≡ entry rank (get_or l i 0)
-      mapped [] i h = absurd (omega arith)
-      mapped (z ∷ l) zero h = refl
-      mapped (z ∷ l) (suc i) h = mapped l i (omega arith)
+      ∙ get_or-map (entry rank) l i 0 0 h
 
   zero_behind : (i : ℕ) → length l ≤ i → get_or (padded (map (entry rank) l)) i 0 ≡ 0
   unfolding padded
@@ -188,17 +184,12 @@ module _ {policy k : ℕ} {calls : List ℕ} {m : Lent} (g : Given policy k call
         counts_add_up_law,
       )
 
--- a test of two things that passes passes both
-both : (a b : Bool) → (a && b) ≡ true → (a ≡ true) × (b ≡ true)
-both true b e = (refl, e)
-both false b e = clash e refl
-
 pub sound_countable : (m : Lent) → sound m ≡ true → countable m.value m.depths ≡ true
 unfolding sound
-sound_countable m e = (both (countable m.value m.depths) _ e).0
+sound_countable m e = and_left (countable m.value m.depths) _ e
 
 pub countable_fits : (s : Session) (depths : List ℕ) → countable s depths ≡ true → (fits s ≡ true) × (adds_up s depths ≡ true)
-countable_fits s depths e = both (fits s) (adds_up s depths) e
+countable_fits s depths e = (and_left (fits s) (adds_up s depths) e, and_right (fits s) (adds_up s depths) e)
 
 -- one place, test by test
 module _ (places counts : List ℕ) (i : ℕ) {page : ℕ} (here : page ≡ page_at places i) where

@@ -5,9 +5,9 @@ use Rattle.rules.specs.Limits.{capacities}
 use Rattle.rules.specs.Refusals.{when_accepted}
 use Rattle.kept.specs.Tally.{up_to}
 use Rattle.kept.specs.Shown.{shown_places}
+use Rattle.kept.specs.declared.shown.Listing.{Listing}
 use Rattle.run.specs.ReferredAll.{RunMemory, run_memory, depth_then, memory_then}
 use Rattle.session.specs.declared.Session.{Session}
-use Rattle.session.specs.declared.Listing.{Listing}
 use Rattle.session.specs.History.{reference_answer}
 use Rattle.session.specs.Lent.{Lent, lent_of}
 

@@ -1,7 +1,7 @@
 -- What a session's value and its three tables hold after a history: all of it, place by place. The tables are those of a
 -- run over the references accepted, with nothing still to come.
 use Rattle.std.specs.Prelude.{ℕ, ◌≡◌, List, [], length}
-use Rattle.rules.specs.declared.Answer.TheVariants.{Accepted}
+use Rattle.rules.specs.Refusals.{accepted}
 use Rattle.kept.specs.Memory.{places_after, depths_after, counts_after}
 use Rattle.session.specs.declared.Session.{Session}
 use Rattle.session.specs.History.{start_answer, accepted_of, list_now}
@@ -9,7 +9,7 @@ use Rattle.session.specs.Lent.{Lent}
 
 -- the small value
 pub record Value (policy k : ℕ) (calls : List ℕ) (s : Session) : Type 0 where
-  pub started : start_answer policy k ≡ Accepted
+  pub started : start_answer policy k ≡ accepted
   pub policy_is : s.policy ≡ policy
   pub k_is : s.k ≡ k
   pub length_is : s.length ≡ length (list_now policy k calls)

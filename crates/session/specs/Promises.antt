@@ -1,12 +1,10 @@
 -- A session's promises pin their whole answers: the memory is a function of the history, and two answers that both meet a
 -- promise are equal, whatever memory was lent.
-use Rattle.std.specs.Prelude.{ℕ, ◌≡◌, List}
+use Rattle.std.specs.Prelude.{ℕ, ◌≡◌, List, Result}
 use Rattle.std.proofs.Common.{sym, ◌∙◌}
+use Rattle.rules.specs.declared.refusal.Refusal.{Refusal}
+use Rattle.kept.specs.declared.shown.Listing.{Listing}
 use Rattle.session.specs.declared.Session.{Session}
-use Rattle.session.specs.declared.Started.{Started}
-use Rattle.session.specs.declared.Depth.{Depth}
-use Rattle.session.specs.declared.Listing.{Listing}
-use Rattle.session.specs.declared.Asked.{Asked}
 use Rattle.session.specs.Lent.{Lent}
 use Rattle.session.specs.Memory.{Value, Gives}
 use Rattle.session.specs.Answers.{Starting, Referring}
@@ -33,8 +31,8 @@ module _ {policy k : ℕ} {calls : List ℕ} {s s' : Session} {places depths cou
   )
 
 -- two starts that both meet the promise are equal, and so are the tables they leave
-pub start_unique : {policy k : ℕ} {p d c p₁ d₁ c₁ p₂ d₂ c₂ : List ℕ} {r₁ r₂ : Started} → Starting policy k p d c p₁ d₁ c₁ r₁
-    → Starting policy k p d c p₂ d₂ c₂ r₂ → (r₁ ≡ r₂) × (p₁ ≡ p₂) × (d₁ ≡ d₂) × (c₁ ≡ c₂)
+pub start_unique : {policy k : ℕ} {p d c p₁ d₁ c₁ p₂ d₂ c₂ : List ℕ} {r₁ r₂ : Result Session Refusal}
+    → Starting policy k p d c p₁ d₁ c₁ r₁ → Starting policy k p d c p₂ d₂ c₂ r₂ → (r₁ ≡ r₂) × (p₁ ≡ p₂) × (d₁ ≡ d₂) × (c₁ ≡ c₂)
 start_unique a b = (
   a.answer ∙ sym b.answer,
   a.places_are ∙ sym b.places_are,
@@ -43,7 +41,7 @@ start_unique a b = (
 )
 
 -- two references that both meet the promise answer the same and leave the same, in any memory
-pub refer_unique : {before after after' : Lent} {page : ℕ} {r r' : Depth} → Referring before page after r
+pub refer_unique : {before after after' : Lent} {page : ℕ} {r r' : Result ℕ Refusal} → Referring before page after r
     → Referring before page after' r' → (r ≡ r') × (after ≡ after')
 refer_unique f g = (f.depth_is ∙ sym g.depth_is, f.memory_is ∙ sym g.memory_is)
 
@@ -54,9 +52,10 @@ list_read_unique f g = f.answered ∙ sym g.answered
 pub references_read_unique : {s : Session} {r₁ r₂ : ℕ} → ReferencesRead s r₁ → ReferencesRead s r₂ → r₁ ≡ r₂
 references_read_unique f g = f.answered ∙ sym g.answered
 
-pub hits_read_unique : {s : Session} {d : List ℕ} {c : ℕ} {r₁ r₂ : Asked} → HitsRead s d c r₁ → HitsRead s d c r₂ → r₁ ≡ r₂
+pub hits_read_unique : {s : Session} {d : List ℕ} {c : ℕ} {r₁ r₂ : Result ℕ Refusal} → HitsRead s d c r₁ → HitsRead s d c r₂
+    → r₁ ≡ r₂
 hits_read_unique f g = f.answered ∙ sym g.answered
 
-pub misses_read_unique : {s : Session} {d : List ℕ} {c : ℕ} {r₁ r₂ : Asked} → MissesRead s d c r₁ → MissesRead s d c r₂
+pub misses_read_unique : {s : Session} {d : List ℕ} {c : ℕ} {r₁ r₂ : Result ℕ Refusal} → MissesRead s d c r₁ → MissesRead s d c r₂
     → r₁ ≡ r₂
 misses_read_unique f g = f.answered ∙ sym g.answered

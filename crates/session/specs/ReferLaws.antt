@@ -4,8 +4,8 @@ use Rattle.std.proofs.Common.{arith}
 use borrow.Author.Tests.{le-leb, lt-leb, leb-true, leb-false}
 use Rattle.rules.specs.Limits.{capacities, references, pages, opt}
 use Rattle.rules.specs.Cases.{by_cases}
+use Rattle.rules.specs.Refusals.{accepted}
 use Rattle.rules.specs.AnswerLaws.{not_accepted}
-use Rattle.rules.specs.declared.Answer.TheVariants.{Accepted}
 use Rattle.kept.specs.Below.{Below}
 use Rattle.session.specs.History.{start_answer, accepted_of}
 
@@ -15,7 +15,7 @@ pub record Bounds (policy k : ℕ) : Type 0 where
   pub low : 1 ≤ k
   pub high : k ≤ capacities
 
-pub start_bounds : (policy k : ℕ) → start_answer policy k ≡ Accepted → Bounds policy k
+pub start_bounds : (policy k : ℕ) → start_answer policy k ≡ accepted → Bounds policy k
 start_bounds policy k e =
     by_cases (leb opt policy) (λ a. not_accepted (rw a at e))
     (λ a. by_cases (leb 1 k)

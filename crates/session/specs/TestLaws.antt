@@ -4,8 +4,8 @@ use Rattle.std.proofs.Common.{arith, length-take}
 use Rattle.std.proofs.Math.Path.{refl}
 use mathlib.Core.List.{List, []}
 use borrow.Author.Tests.{le-leb, lt-ltb, leb-true, leb-false, ltb-true, eq-eqb}
-use Rattle.rules.specs.Limits.{capacities, references, pages, opt}
-use Rattle.rules.specs.Cases.{by_cases, clash}
+use Rattle.rules.specs.Limits.{capacities, references, pages, opt, is_capacity}
+use Rattle.rules.specs.Cases.{by_cases, and_left, and_right}
 use Rattle.theory.specs.Policy.{policy_of}
 use Rattle.theory.proofs.Order.{policy_order}
 use Rattle.theory.proofs.Theorem.{at_most}
@@ -32,21 +32,16 @@ pub record Fitting (s : Session) : Type 0 where
 pub fits_says : (s : Session) → fits s ≡ true → Fitting s
 unfolding fits
 fits_says s e =
-    by_cases (ltb s.policy opt)
-    (λ a. by_cases (leb 1 s.k)
-    (λ b. by_cases (leb s.k capacities)
-    (λ c. by_cases (leb s.length s.k)
-    (λ d. record {
-      session = ltb-true s.policy opt a;
-      low = leb-true 1 s.k b;
-      high = leb-true s.k capacities c;
-      inside = leb-true s.length s.k d;
-      few = leb-true s.references references (rw (a, b, c, d) at e);
-    })
-    (λ d. clash (rw (a, b, c, d) at e) refl))
-    (λ c. clash (rw (a, b, c) at e) refl))
-    (λ b. clash (rw (a, b) at e) refl))
-    (λ a. clash (rw a at e) refl)
+    let others = and_right (ltb s.policy opt) _ e in
+    let range = and_left (is_capacity s.k) _ others in
+    let counts = and_right (is_capacity s.k) _ others in
+    record {
+      session = ltb-true s.policy opt (and_left _ _ e);
+      low = leb-true 1 s.k (and_left _ _ range);
+      high = leb-true s.k capacities (and_right (leb 1 s.k) _ range);
+      inside = leb-true s.length s.k (and_left _ _ counts);
+      few = leb-true s.references references (and_right (leb s.length s.k) _ counts);
+    }
 
 pub fits_if : {s : Session} → Fitting s → fits s ≡ true
 unfolding fits

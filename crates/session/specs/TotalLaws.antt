@@ -1,7 +1,9 @@
 -- Sums of tables: one more in a table is one more in its sum, so the depths of a run add up to its references, and so do the
 -- counts of its pages.
-use Rattle.std.specs.Prelude.{ℕ, zero, suc, ◌+◌, ◌≤◌, ◌<◌, ◌≡◌, refl, List, [], ◌∷◌, eqb, ltb, length, get_or, replicate}
-use Rattle.std.proofs.Common.{arith, add-one, ◌∙◌, eqb-true, ltb-true, ltb-false, lt-ltb, le-ltb}
+use Rattle.std.specs.Prelude.{ℕ, zero, suc, ◌+◌, ◌≤◌, ◌<◌, ◌≡◌, refl, List, [], ◌∷◌, eqb, ltb, length, get_or}
+use Rattle.std.specs.Prelude.{replicate, sum, take}
+use Rattle.std.proofs.lemmas.List.Sums.{sum_by_more}
+use Rattle.std.proofs.Common.{take_all, ap, arith, add-one, ◌∙◌, eqb-true, ltb-true, ltb-false, lt-ltb, le-ltb}
 use Rattle.std.proofs.lemmas.Bool.{eqb-false}
 use Rattle.rules.specs.Limits.{capacities, pages}
 use Rattle.rules.specs.Lists.{one}
@@ -18,6 +20,15 @@ use Rattle.session.specs.Tests.{total}
 pub total_step : (table : List ℕ) (n : ℕ) → total table (n + 1) ≡ total table n + get_or table n 0
 unfolding total
 total_step table n = rw (add-one n)
+
+-- all of a table
+pub total_all : (table : List ℕ) (n : ℕ) → length table ≡ n → total table n ≡ sum table
+unfolding total
+total_all table n long = first n (omega arith) ∙ ap sum (take_all n table (omega arith))
+  where
+    first : (i : ℕ) → i ≤ length table → total table i ≡ sum (take i table)
+    first zero h = refl
+    first (suc i) h = omega (arith, first i (omega arith), rw add-one at (sum_by_more (λ (x : ℕ). x) table i 0 (omega arith)))
 
 pub zeros_total : (m n : ℕ) → total (replicate m 0) n ≡ 0
 unfolding total

@@ -1,10 +1,11 @@
 // A session: one reference at a time, under LRU or LFU, readable at any moment. Its state is a small value beside three
-// tables that the caller lends, so that a reference copies no table; what they hold together is a function of the session's
+// tables that the caller lends, so that a reference copies no table; C lends each by a pointer of its own, so they are
+// parameters and not one struct; what they hold together is a function of the session's
 // history (specs/Memory.antt). No call asks anything of them: it says what it makes of any memory (specs/AnyMemory.antt).
 #![tactic(auto)]
 
 ghost use Rattle.std.specs.Prelude.{◌≡◌};
-ghost use Rattle.session.specs.Answers.{Starting, Referring, refused_with};
+ghost use Rattle.session.specs.Answers.{Starting, Referring, OfSession};
 ghost use Rattle.session.specs.Lent.{lent_of};
 
 mod reads;
@@ -13,15 +14,12 @@ mod tests;
 
 use kept::DEPTHS;
 pub use reads::{hits, list, misses, references};
-use rules::{
-    BAD_LIMIT, BAD_PAGE, BAD_POLICY, CAPACITIES, OPT, PAGES, Page, REFERENCES, Refusal,
-    SESSION_FULL,
-};
+use rules::{CAPACITIES, PAGES, Page, Policy, REFERENCES, Refusal};
 pub use soundness::sound;
 pub use tests::{adds_up, countable, fits};
 
-// The part of a session that is passed by value.
-#[derive(Clone, Copy)]
+// The part of a session that is passed by value. Its policy is a number, as lent memory may hold any.
+#[derive(Clone, Copy, Debug, PartialEq, Eq)]
 pub struct Session {
     pub policy: u8,
     pub k: usize,
@@ -29,37 +27,14 @@ pub struct Session {
     pub references: usize,
 }
 
-#[derive(Clone, Copy)]
-pub enum Started {
-    Begun(Session),
-    Refused(Refusal),
-}
-
-// The depth of an accepted reference, or 0 if the page was not in the list.
-#[derive(Clone, Copy)]
-pub enum Depth {
-    Accepted(usize),
-    Refused(Refusal),
-}
-
-#[derive(Clone, Copy)]
-pub struct Referenced {
-    pub depth: Depth,
-    pub session: Session,
-}
-
-// The list that is shown: its length, and its pages in the order of places; places past the length read 0.
-#[derive(Drop)]
-pub struct Listing {
-    pub length: usize,
-    pub places: [Page; CAPACITIES],
-}
-
-// A number that was asked for.
-#[derive(Clone, Copy)]
-pub enum Asked {
-    Number(usize),
-    Refused(Refusal),
+// The policy of a number that a session takes: LRU or LFU, since OPT looks ahead.
+fn session_policy(number: u8) -> Result<Policy, Refusal>
+    ensures { OfSession number result }
+{
+    match Policy::try_from(number)? {
+        Policy::Opt => Err(Refusal::BadPolicy),
+        policy => Ok(policy),
+    }
 }
 
 // Starts a session under a policy with a list of `k` places, in tables of any content. A refused start gives no session and
@@ -70,33 +45,19 @@ pub fn start(
     places: &mut [u32; CAPACITIES],
     depths: &mut [u32; DEPTHS],
     counts: &mut [u16; PAGES as usize],
-) -> Started
+) -> Result<Session, Refusal>
     ensures { Starting policy k
         places.old depths.old counts.old
         places.new depths.new counts.new result }
 {
-    if OPT <= policy {
-        return Started::Refused(Refusal {
-            number: BAD_POLICY,
-            place: 0,
-        });
+    session_policy(policy)?;
+    if k < 1 || CAPACITIES < k {
+        return Err(Refusal::BadLimit);
     }
-    if k < 1 {
-        return Started::Refused(Refusal {
-            number: BAD_LIMIT,
-            place: 0,
-        });
-    }
-    if CAPACITIES < k {
-        return Started::Refused(Refusal {
-            number: BAD_LIMIT,
-            place: 0,
-        });
-    }
-    *places = [0u32; CAPACITIES];
-    *depths = [0u32; DEPTHS];
-    *counts = [0u16; PAGES as usize];
-    Started::Begun(Session {
+    *places = [0; CAPACITIES];
+    *depths = [0; DEPTHS];
+    *counts = [0; PAGES as usize];
+    Ok(Session {
         policy,
         k,
         length: 0,
@@ -104,60 +65,37 @@ pub fn start(
     })
 }
 
-// A refused reference: its number, and the session as it is.
-fn refused(s: Session, number: u8) -> Referenced
-    ensures { result ≡ refused_with s number }
-{
-    Referenced {
-        depth: Depth::Refused(Refusal { number, place: 0 }),
-        session: s,
-    }
-}
-
 // One reference. An accepted one answers its depth, or 0 if the page was not in the list; a refused one leaves everything as
 // it is.
 pub fn refer(
-    s: Session,
+    s: &mut Session,
     page: Page,
     places: &mut [u32; CAPACITIES],
     depths: &mut [u32; DEPTHS],
     counts: &mut [u16; PAGES as usize],
-) -> Referenced
+) -> Result<usize, Refusal>
     ensures { Referring
-        (lent_of s places.old depths.old counts.old) page.0
-        (lent_of result.session places.new depths.new counts.new) result.depth }
+        (lent_of s.old places.old depths.old counts.old) page.0
+        (lent_of s.new places.new depths.new counts.new) result }
 {
     if REFERENCES <= s.references {
-        return refused(s, SESSION_FULL);
+        return Err(Refusal::SessionFull);
     }
-    let p = page.0;
-    if PAGES <= p {
-        return refused(s, BAD_PAGE);
+    if PAGES <= page.0 {
+        return Err(Refusal::BadPage(0));
     }
-    let mut length = s.length;
     // LRU and LFU look nothing up
-    let pages = [p];
-    let nexts = [0u16; 1];
     let depth = run::refer_all(
         s.policy,
         s.k,
-        &pages,
-        &nexts,
+        &[page.0],
+        &[0],
         0,
-        &mut length,
+        &mut s.length,
         places,
         depths,
         counts,
     );
-    let references = s.references + 1;
-    let next = Session {
-        policy: s.policy,
-        k: s.k,
-        length,
-        references,
-    };
-    Referenced {
-        depth: Depth::Accepted(depth),
-        session: next,
-    }
+    s.references += 1;
+    Ok(depth)
 }

@@ -1,18 +1,18 @@
 // Reading a session changes nothing: the list, the references accepted, the hits and misses at a capacity.
 ghost use Rattle.session.specs.Reads.{ListRead, ReferencesRead, HitsRead, MissesRead};
 
-use crate::{Asked, Listing, Session};
-use kept::DEPTHS;
-use rules::{BAD_CAPACITY, CAPACITIES, Refusal};
+use crate::Session;
+use kept::{DEPTHS, Listing};
+use rules::{CAPACITIES, Refusal};
 
 // The list as it stands.
+#[tactic(auto, using(crate::proofs::ReadLaws::list_read))]
 pub fn list(s: Session, places: &[u32; CAPACITIES]) -> Listing
     ensures { ListRead s places.now result }
 {
-    let length = s.length;
     Listing {
-        length,
-        places: kept::show(places, length),
+        length: s.length,
+        places: kept::show(places, s.length),
     }
 }
 
@@ -24,44 +24,19 @@ pub fn references(s: Session) -> usize
 }
 
 // How many of them were hits at capacity `c`.
-pub fn hits(s: Session, depths: &[u32; DEPTHS], c: usize) -> Asked
+pub fn hits(s: Session, depths: &[u32; DEPTHS], c: usize) -> Result<usize, Refusal>
     ensures { HitsRead s depths.now c result }
 {
-    if c < 1 {
-        return Asked::Refused(Refusal {
-            number: BAD_CAPACITY,
-            place: 0,
-        });
+    if c < 1 || s.k < c {
+        return Err(Refusal::BadCapacity);
     }
-    if s.k < c {
-        return Asked::Refused(Refusal {
-            number: BAD_CAPACITY,
-            place: 0,
-        });
-    }
-    Asked::Number(kept::sum(depths, c))
+    Ok(kept::sum(depths, c))
 }
 
-// How many of them were misses at capacity `c`.
-pub fn misses(s: Session, depths: &[u32; DEPTHS], c: usize) -> Asked
+// How many of them were misses at capacity `c`: 0 where a table of other memory says more hits than references.
+pub fn misses(s: Session, depths: &[u32; DEPTHS], c: usize) -> Result<usize, Refusal>
     ensures { MissesRead s depths.now c result }
 {
-    if c < 1 {
-        return Asked::Refused(Refusal {
-            number: BAD_CAPACITY,
-            place: 0,
-        });
-    }
-    if s.k < c {
-        return Asked::Refused(Refusal {
-            number: BAD_CAPACITY,
-            place: 0,
-        });
-    }
-    // a table of other memory may say more hits than references
-    let hits = kept::sum(depths, c);
-    if s.references < hits {
-        return Asked::Number(0);
-    }
-    Asked::Number(s.references - hits)
+    let hits = hits(s, depths, c)?;
+    Ok(s.references.saturating_sub(hits))
 }

@@ -4,7 +4,6 @@
 ghost use Rattle.std.specs.Prelude.{◌<◌, ◌≡◌};
 ghost use Rattle.rules.specs.Limits.{capacities, pages};
 ghost use Rattle.rules.specs.AllBelow.{all_below};
-ghost use Rattle.kept.specs.Entries.{page_of as «page_of_entry»};
 ghost use Rattle.session.specs.Lent.{lent_of};
 ghost use Rattle.session.specs.Tests.{sound as «sound_of», total, stands_else};
 ghost use Rattle.session.specs.Tests.{page_stands as «page_stands_of», place_stands as «place_stands_of»};
@@ -12,46 +11,31 @@ ghost use Rattle.session.specs.Tests.{counts_add_up as «counts_add_up_of»};
 
 use crate::{Session, countable};
 use kept::DEPTHS;
-use rules::{CAPACITIES, LFU, PAGES, both};
-
-// The page of an entry.
-#[tactic(auto, unfolding(kept::specs::Entries::page_of))]
-fn page_of(entry: u32) -> u16
-    ensures { result ≡ «page_of_entry» entry }
-{
-    (65535 - entry % 65536) as u16
-}
+use rules::{CAPACITIES, PAGES, Policy};
 
 // Do other pages stand in all places before this one? The loop goes on where one has failed: without a way out it is done
 // many places at a time.
+#[tactic(auto, unfolding(rules::specs::AllBelow::all_below))]
 fn not_before(places: &[u32; CAPACITIES], page: u16, i: usize) -> bool
     requires { i < capacities }
     ensures { result ≡ all_below (stands_else places.now page) i }
 {
     let mut alone = true;
-    let mut j = 0;
-    while j < i {
-        alone = both(alone, page_of(places[j]) != page);
-        j += 1;
+    for j in 0..i {
+        alone &= kept::page(places[j]) != page;
     }
     alone
 }
 
 // Does a page stand in this place, with its count beside it, and in none before?
+#[tactic(auto, unfolding(crate::specs::Tests::page_stands))]
 fn page_stands(places: &[u32; CAPACITIES], counts: &[u16; PAGES as usize], i: usize) -> bool
     requires { i < capacities }
     ensures { result ≡ «page_stands_of» places.now counts.now i }
 {
     let entry = places[i];
-    let page = page_of(entry);
-    if PAGES <= page {
-        return false;
-    }
-    let count = counts[page as usize];
-    if entry != kept::entry(count, page) {
-        return false;
-    }
-    not_before(places, page, i)
+    let page = kept::page(entry);
+    page < PAGES && entry == kept::entry(counts[page as usize], page) && not_before(places, page, i)
 }
 
 // The same of a place in use; a place behind reads 0.
@@ -66,42 +50,29 @@ fn place_stands(
     ensures { result ≡ «place_stands_of» used places.now counts.now i }
 {
     if i < used {
-        return page_stands(places, counts, i);
+        page_stands(places, counts, i)
+    } else {
+        places[i] == 0
     }
-    places[i] == 0
 }
 
+#[tactic(auto, using(rules::specs::AllBelow::all_next))]
 fn places_stand(used: usize, places: &[u32; CAPACITIES], counts: &[u16; PAGES as usize]) -> bool
     ensures { result ≡ all_below («place_stands_of» used places.now counts.now) capacities }
 {
-    let mut i = 0;
-    while i < CAPACITIES {
+    for i in 0..CAPACITIES {
         if !place_stands(used, places, counts, i) {
             return false;
         }
-        i += 1;
     }
     true
-}
-
-// A count in a wider type, with its bound.
-fn widened(count: u16) -> usize
-    ensures { (result ≡ count) × (result < 65536) }
-{
-    count as usize
 }
 
 // How often any page was counted.
 fn all_counts(counts: &[u16; PAGES as usize]) -> usize
     ensures { result ≡ total counts.now pages }
 {
-    let mut sum = 0;
-    let mut p = 0;
-    while p < PAGES as usize {
-        sum += widened(counts[p]);
-        p += 1;
-    }
-    sum
+    counts.iter().map(|&count| usize::from(count)).sum()
 }
 
 // LFU counted each reference once; LRU counts none.
@@ -109,11 +80,11 @@ fn all_counts(counts: &[u16; PAGES as usize]) -> usize
 fn counts_add_up(s: Session, counts: &[u16; PAGES as usize]) -> bool
     ensures { result ≡ «counts_add_up_of» s counts.now }
 {
-    let sum = all_counts(counts);
-    if s.policy == LFU {
-        return sum == s.references;
-    }
-    sum == 0
+    let counted = match Policy::try_from(s.policy) {
+        Ok(Policy::Lfu) => s.references,
+        _ => 0,
+    };
+    all_counts(counts) == counted
 }
 
 // X4: is all of it sound?
@@ -126,11 +97,5 @@ pub fn sound(
 ) -> bool
     ensures { result ≡ «sound_of» (lent_of s places.now depths.now counts.now) }
 {
-    if !countable(s, depths) {
-        return false;
-    }
-    if !places_stand(s.length, places, counts) {
-        return false;
-    }
-    counts_add_up(s, counts)
+    countable(s, depths) && places_stand(s.length, places, counts) && counts_add_up(s, counts)
 }

@@ -4,48 +4,28 @@ ghost use Rattle.std.specs.Prelude.{suc, ◌<◌, ◌≡◌};
 ghost use Rattle.rules.specs.Limits.{capacities};
 ghost use Rattle.session.specs.Tests.{fits as «fits_of», adds_up as «adds_up_of», countable as «countable_of», total};
 
-use crate::Session;
+use crate::{Session, session_policy};
 use kept::DEPTHS;
-use rules::{CAPACITIES, OPT, REFERENCES};
+use rules::{CAPACITIES, REFERENCES};
 
 // X2: do its numbers fit?
 #[tactic(auto, unfolding(crate::specs::Tests::fits))]
 pub fn fits(s: Session) -> bool
     ensures { result ≡ «fits_of» s }
 {
-    if OPT <= s.policy {
-        return false;
-    }
-    if s.k < 1 {
-        return false;
-    }
-    if CAPACITIES < s.k {
-        return false;
-    }
-    if s.k < s.length {
-        return false;
-    }
-    s.references <= REFERENCES
+    session_policy(s.policy).is_ok()
+        && 1 <= s.k
+        && s.k <= CAPACITIES
+        && s.length <= s.k
+        && s.references <= REFERENCES
 }
 
-// A count in a wider type, with its bound.
-fn wide(count: u32) -> usize
-    ensures { (result ≡ count) × (result < 4294967296) }
-{
-    count as usize
-}
-
-// How often any depth came.
+// How often any depth came. `all_counts` is the same line over 16 bits: one function for both would need a bound on what its
+// conversion gives, and be no plainer.
 fn all_depths(depths: &[u32; DEPTHS]) -> usize
     ensures { result ≡ total depths.now (suc capacities) }
 {
-    let mut sum = 0;
-    let mut d = 0;
-    while d < DEPTHS {
-        sum += wide(depths[d]);
-        d += 1;
-    }
-    sum
+    depths.iter().map(|&count| count as usize).sum()
 }
 
 // X3: do its depths add up to its references?
@@ -60,8 +40,5 @@ pub fn adds_up(s: Session, depths: &[u32; DEPTHS]) -> bool
 pub fn countable(s: Session, depths: &[u32; DEPTHS]) -> bool
     ensures { result ≡ «countable_of» s depths.now }
 {
-    if !fits(s) {
-        return false;
-    }
-    adds_up(s, depths)
+    fits(s) && adds_up(s, depths)
 }

@@ -2,11 +2,11 @@
 -- taken out.
 use Rattle.std.proofs.Common.{ℕ, zero, suc, ◌+◌, ◌-◌, ◌≤◌, ◌<◌, arith, add-one, ◌≡◌, refl, sym, ◌∙◌, ap, List, [], ◌∷◌, ◌++◌}
 use Rattle.std.proofs.Common.{append-nil, eqb, length, take, drop, get_or, length-drop, length-append, drop_of_length-le}
-use Rattle.std.proofs.Common.{take_all, length-take-le}
-use Rattle.std.proofs.Math.ListN.{get_or-eq_default}
+use Rattle.std.proofs.Common.{take_all, length-take-le, Some, None, Break, Continue}
 use Rattle.rules.specs.Cases.{by_cases}
 use Rattle.theory.specs.OnePass.{carry, depth, depth_from}
 use Rattle.kept.specs.Entries.{always}
+use Rattle.step.specs.Shifting.{Found}
 use Rattle.step.specs.Stepped.{Carrying}
 use Rattle.theory.proofs.Depth.{depth_most}
 
@@ -41,30 +41,27 @@ module _ (old : ℕ) where
   carry_on s y (z ∷ l) h =
       by_cases (eqb z old) (λ e. absurd (omega (arith, rw e at h))) (λ e. rw (e, carry_on (suc s) z l (rw e at h)))
 
-  pub carried_found : {first d : ℕ} {l after : List ℕ} → d ≡ depth old l → 0 < d
-      → after ≡ first ∷ (take (d - 1) l ++ drop (d - 1 + 1) l)
-      → Carrying always old first l after (record { depth = d; last = 0 })
-  carried_found {first} {d} {l} {after} e p a =
-      let moved : List ℕ = first ∷ (take (d - 1) l ++ drop (suc (d - 1)) l) in
-      let whole : carry always old first l ≡ moved = carry_out 0 (d - 1) first l (sym e ∙ omega arith) in
-      let most : d ≤ length l = omega (arith, e, depth_most 0 old l) in
+  pub carried_found : {first i : ℕ} {l after : List ℕ} → Found old l (Some i) → after ≡ first ∷ (take i l ++ drop (i + 1) l)
+      → Carrying always old first l after (Break (i + 1))
+  carried_found {first} {i} {l} f a =
+      let moved : List ℕ = first ∷ (take i l ++ drop (suc i) l) in
+      let whole : carry always old first l ≡ moved = carry_out 0 i first l (f.1 ∙ omega arith) in
       let long : length moved ≡ length l =
       rw (
-        length-append (take (d - 1) l) (drop (suc (d - 1)) l),
-        length-take-le (d - 1) l (omega (arith, most)),
-        length-drop (suc (d - 1)) l,
-      ) (omega (arith, most)) in
+        length-append (take i l) (drop (suc i) l),
+        length-take-le i l (omega (arith, f.0)),
+        length-drop (suc i) l,
+      ) (omega (arith, f.0)) in
       record {
         places = rw (a, whole, add-one, take_all (length l) moved (omega (arith, long)));
-        depth_is = e;
-        last_is = rw (whole, get_or-eq_default moved 0 {n = length l} (omega (arith, long)));
+        ends = (omega arith, sym f.1);
       }
 
-  pub carried_missing : {first : ℕ} {l after : List ℕ} → 0 ≡ depth old l → 0 < length l
+  pub carried_missing : {first : ℕ} {l after : List ℕ} → Found old l None → 0 < length l
       → after ≡ first ∷ (take (length l - 1) l ++ drop (length l - 1 + 1) l)
-      → Carrying always old first l after (record { depth = 0; last = get_or l (length l - 1) 0 })
-  carried_missing {first} {l} {after} e p a =
-      let whole : carry always old first l ≡ first ∷ l = carry_on 0 first l (sym e) in
+      → Carrying always old first l after (Continue (get_or l (length l - 1) 0))
+  carried_missing {first} {l} {after} missed p a =
+      let whole : carry always old first l ≡ first ∷ l = carry_on 0 first l missed in
       let back : length l ≡ suc (length l - 1) = omega arith in
       record {
         places =
@@ -74,8 +71,7 @@ module _ (old : ℕ) where
               drop_of_length-le l {i = length l - 1 + 1} (omega arith),
               append-nil (take (length l - 1) l),
             ) (cut back);
-        depth_is = e;
-        last_is = rw whole (shown back);
+        ends = (missed, rw whole (shown back));
       }
     where
       cut : length l ≡ suc (length l - 1) → first ∷ take (length l - 1) l ≡ take (length l) (first ∷ l)
@@ -84,7 +80,7 @@ module _ (old : ℕ) where
       shown : length l ≡ suc (length l - 1) → get_or l (length l - 1) 0 ≡ get_or (first ∷ l) (length l) 0
       shown back = ap (λ (n : ℕ). get_or (first ∷ l) n 0) (sym back)
 
-  pub carried_empty : {first : ℕ} (l : List ℕ) → length l ≡ 0 → Carrying always old first l l (record { depth = 0; last = first })
+  pub carried_empty : {first : ℕ} (l : List ℕ) → length l ≡ 0 → Carrying always old first l l (Continue first)
   unfolding carry depth_from
-  carried_empty [] h = record { places = refl; depth_is = refl; last_is = refl }
+  carried_empty [] h = record { places = refl; ends = (refl, refl) }
   carried_empty (y ∷ l) h = absurd (omega arith)

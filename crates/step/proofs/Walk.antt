@@ -1,15 +1,14 @@
 -- The carrying loop over plain lists: what is written so far, followed by the carry of what is left, is the whole carry.
-use Rattle.std.proofs.Common.{ℕ, suc, ◌+◌, ◌≤◌, ◌<◌, arith, add-one, true, false, ◌≡◌, refl, sym, ◌∙◌, List, [], ◌∷◌, ◌++◌}
+use Rattle.std.proofs.Common.{ℕ, suc, ◌+◌, ◌≤◌, ◌<◌, min, max, arith, add-one, true, false, ◌≡◌, refl, sym, ◌∙◌, List, [], ◌∷◌}
+use Rattle.std.proofs.Common.{◌++◌}
 use Rattle.std.proofs.Common.{append_assoc, append-nil, eqb, length, drop, get_or, set, length-append, length-drop, length-set}
-use Rattle.std.proofs.Common.{drop_of_length-le, drop-cons, take_all, take_at, eq-eqb, ne_eqb}
-use Rattle.std.proofs.Math.ListN.{get_or-eq_default}
+use Rattle.std.proofs.Common.{drop_of_length-le, drop-cons, take_all, take_at, eq-eqb, ne_eqb, ltb, ltb-true, ltb-false}
+use Rattle.std.proofs.Common.{ControlFlow, Break, Continue}
 use Rattle.std.proofs.lemmas.List.{set_at, get_or_at}
 use Rattle.theory.specs.Priority.{Priority, higher, lower}
 use Rattle.theory.specs.OnePass.{carry, depth, depth_from}
-use Rattle.rules.specs.Cases.{clash}
+use Rattle.rules.specs.Cases.{by_cases}
 use Rattle.kept.specs.Entries.{larger}
-use Rattle.step.specs.declared.Carried.{Carried}
-use Rattle.step.specs.declared.Walked.{Walked}
 use Rattle.step.specs.Stepped.{AtPlace, Carrying}
 
 -- after i places of `before` the list is `now`, and `carried` is in hand
@@ -72,10 +71,9 @@ module _ {above : Priority} {old first : ℕ} {before : List ℕ} where
           })
 
       -- the old entry is here: the carried one is put down, and nothing is left over
-      pub walk_found : (r : Carried) → get_or now i 0 ≡ old → r.depth ≡ i + 1 → r.last ≡ 0
-          → Carrying above old first before (set now i carried) r
+      pub walk_found : get_or now i 0 ≡ old → Carrying above old first before (set now i carried) (Break (i + 1))
       unfolding carry depth_from
-      walk_found r e d l =
+      walk_found e =
           let all : List ℕ = w.done ++ (carried ∷ drop (suc i) before) in
           record {
             places =
@@ -86,8 +84,7 @@ module _ {above : Priority} {old first : ℕ} {before : List ℕ} where
                   found,
                   take_all (length before) all (omega (arith, full)),
                 );
-            depth_is = rw (d, w.deeper, drop-cons before i 0 h, this, add-one);
-            last_is = rw (l, found, get_or-eq_default all 0 {n = length before} (omega (arith, full)));
+            ends = (omega arith, rw (w.deeper, drop-cons before i 0 h, this, add-one));
           }
         where
           this : eqb (get_or before i 0) old ≡ true
@@ -105,9 +102,9 @@ module _ {above : Priority} {old first : ℕ} {before : List ℕ} where
               ) (omega arith)
 
     -- the end: the carried entry is left over
-    pub walk_end : (r : Carried) → length before ≤ i → r.depth ≡ 0 → r.last ≡ carried → Carrying above old first before now r
+    pub walk_end : length before ≤ i → Carrying above old first before now (Continue carried)
     unfolding carry depth_from
-    walk_end r h d l =
+    walk_end h =
         record {
           places =
               rw (
@@ -117,8 +114,7 @@ module _ {above : Priority} {old first : ℕ} {before : List ℕ} where
                 left,
                 take_at w.done (carried ∷ []) (length before) full,
               );
-          depth_is = rw (d, w.deeper, drop_of_length-le before h);
-          last_is = rw (l, left, get_or_at w.done carried [] 0 (length before) full);
+          ends = (rw (w.deeper, drop_of_length-le before h), rw (left, get_or_at w.done carried [] 0 (length before) full));
         }
       where
         left : carry above old first before ≡ w.done ++ (carried ∷ [])
@@ -127,30 +123,47 @@ module _ {above : Priority} {old first : ℕ} {before : List ℕ} where
         full : length w.done ≡ length before
         full = omega (arith, w.done_length, w.inside)
 
--- what the code does at a place is what the walk asks for
-pub place_hit : {old carried i : ℕ} {before : List ℕ} → get_or before i 0 ≡ old
-    → AtPlace old carried i before (set before i carried) (record { found = true; carried = carried })
-place_hit {carried = carried} {i} {before} e =
-    record { long = length-set before i carried; hit = λ yes. (e, refl); miss = λ never. clash refl never }
+-- the larger of two entries is the higher
+pub higher_is : (a b : ℕ) → max a b ≡ higher larger a b
+unfolding larger
+higher_is a b = by_cases (ltb b a) (λ e. rw e (omega (arith, ltb-true b a e))) (λ e. rw e (omega (arith, ltb-false b a e)))
 
-pub place_miss : {old carried i stays sinks : ℕ} {before : List ℕ} → (get_or before i 0 ≡ old → ⊥)
+pub lower_is : (a b : ℕ) → min a b ≡ lower larger a b
+unfolding larger
+lower_is a b = by_cases (ltb b a) (λ e. rw e (omega (arith, ltb-true b a e))) (λ e. rw e (omega (arith, ltb-false b a e)))
+
+-- what the code does at a place is what the walk asks for
+pub place_hit : {old : ℕ} (carried i : ℕ) (before : List ℕ) → get_or before i 0 ≡ old
+    → AtPlace old carried i before (set before i carried) (Break (i + 1))
+place_hit carried i before e = (e, refl, refl)
+
+pub place_miss : {old stays sinks : ℕ} (carried i : ℕ) (before : List ℕ) → (get_or before i 0 ≡ old → ⊥)
     → stays ≡ higher larger carried (get_or before i 0) → sinks ≡ lower larger carried (get_or before i 0)
-    → AtPlace old carried i before (set before i stays) (record { found = false; carried = sinks })
-place_miss {i = i} {stays} {before = before} other s t =
-    record { long = length-set before i stays; hit = λ never. clash never refl; miss = λ yes. (other, rw s, t) }
+    → AtPlace old carried i before (set before i stays) (Continue sinks)
+place_miss carried i before other s t = (other, rw s, t)
+
+-- and what it tells: as many places, and what stands at this one after it
+module _ (old carried i : ℕ) (before after : List ℕ) where
+  pub as_long : (r : ControlFlow ℕ ℕ) → AtPlace old carried i before after r → length after ≡ length before
+  as_long (Break d) at = rw at.1 (length-set before i carried)
+  as_long (Continue c) at = rw at.1 (length-set before i (higher larger carried (get_or before i 0)))
+
+  pub hit : {d : ℕ} → AtPlace old carried i before after (Break d) → (get_or before i 0 ≡ old) × (after ≡ set before i carried)
+  hit at = (at.0, at.1)
+
+  pub miss : {c : ℕ} → AtPlace old carried i before after (Continue c)
+      → (get_or before i 0 ≡ old → ⊥) × (after ≡ set before i (higher larger carried (get_or before i 0)))
+      × (c ≡ lower larger carried (get_or before i 0))
+  miss at = at
 
 -- the code's walk, a place at a time
-module _ {old first carried i : ℕ} {before now after : List ℕ} {r : Walked} (w : Walk larger old first before carried i now)
-    (h : i < length before) (at : AtPlace old carried i now after r) where
-  pub walk_on : r.found ≡ false → Walk larger old first before r.carried (i + 1) after
-  walk_on missing =
-      let missed = at.miss missing in
-      rw (missed.1, missed.2) (walk_next w h missed.0)
+module _ {old first carried i : ℕ} {before now after : List ℕ} (w : Walk larger old first before carried i now)
+    (h : i < length before) where
+  pub walk_on : {next : ℕ} → AtPlace old carried i now after (Continue next) → Walk larger old first before next (i + 1) after
+  walk_on at = rw (at.1, at.2) (walk_next w h at.0)
 
-  pub walk_stop : r.found ≡ true → (c : Carried) → c.depth ≡ i + 1 → c.last ≡ 0 → Carrying larger old first before after c
-  walk_stop found c d l =
-      let here = at.hit found in
-      rw here.1 (walk_found w h c here.0 d l)
+  pub walk_stop : {d : ℕ} → AtPlace old carried i now after (Break d) → Carrying larger old first before after (Break d)
+  walk_stop at = rw (at.1, at.2) (walk_found w h at.0)
 
 -- two places are one and one more
 pub two_on : (i : ℕ) {above : Priority} {old first carried : ℕ} {before now : List ℕ}

@@ -5,7 +5,7 @@ use Rattle.bank_theory.proofs.BankCallLaws.{call_shut, call_through}
 use Rattle.banks.proofs.call.Goals as goal
 
 pub returns-then-shut : goal.returns-then-shut
-returns-then-shut c = rw c.refused.ensures (call_shut c.requires (sym c.shut.ensures ∙ c.if-shut.true))
+returns-then-shut c = call_shut c.requires (sym c.shut.ensures ∙ c.if-shut.true)
 
 pub call-requires : goal.call-requires
 call-requires c = row_stands c.requires

@@ -1,30 +1,31 @@
 -- A law for each return: what was checked on the way decides the answer and the table.
-use Rattle.std.proofs.Common.{arith}
+use Rattle.std.proofs.Common.{rules, sym, Err, ◌≡◌}
 use Rattle.count.proofs.CountLaws.{count_limits, count_short, count_bad, count_fit, count_done}
 use Rattle.count.proofs.count.Goals as goal
 
-pub returns-then-number-ne0 : goal.returns-then-number-ne0
-returns-then-number-ne0 c =
-    rw c.refuse.ensures (count_limits _ _ _ _ _ c.limits-number.ensures c.if-number-ne0.true)
+pub returns-in_err-policy : goal.returns-in_err-policy
+returns-in_err-policy c =
+    let refused : c.from_residual.result ≡ Err c.in_err-policy.field-0.0 = search rules in
+    rw refused (count_limits _ _ _ _ c.in_err-policy.ensures)
 
 pub returns-then-hits-k : goal.returns-then-hits-k
 returns-then-hits-k c =
-    rw c.refuse-then-hits-k.ensures
-    (count_short _ _ _ _ _ c.limits-number.ensures c.if-number-ne0.false c.if-hits-k.true)
+    let limits = c.in_ok-policy.ensures in
+    count_short _ _ _ _ limits.0 c.if-hits-k.true
 
-pub returns-then-bad-trace : goal.returns-then-bad-trace
-returns-then-bad-trace c =
-    rw c.refuse-then-bad-trace.ensures
-    (count_bad _ _ _ _ _ c.limits-number.ensures c.if-number-ne0.false c.if-hits-k.false _
-    c.first_bad-bad.ensures c.if-bad-trace.true)
+pub returns-in_err-all_pages : goal.returns-in_err-all_pages
+returns-in_err-all_pages c =
+    let limits = c.in_ok-policy.ensures in
+    let refused : c.from_residual-in_err-all_pages.result ≡ Err c.in_err-all_pages.field-0.0 = search rules in
+    rw refused (count_bad _ _ _ _ limits.0 c.if-hits-k.false (sym c.in_err-all_pages.ensures))
 
 pub run_policy-run-requires : goal.run_policy-run-requires
 run_policy-run-requires c =
-    let fit = count_fit _ c.args.policy _ _ c.args.hits.now c.limits-number.ensures c.if-number-ne0.false
-    c.if-hits-k.false _ c.first_bad-bad.ensures c.if-bad-trace.false in
-    record { low = fit.low; high = fit.high; short = fit.short; good = fit.good; within = omega arith }
+    let limits = c.in_ok-policy.ensures in
+    count_fit _ c.args.policy _ c.args.hits.now limits.0 c.if-hits-k.false (sym c.in_ok-all_pages.ensures)
 
 pub returns : goal.returns
 returns c =
-    count_done _ _ _ _ _ c.limits-number.ensures c.if-number-ne0.false c.if-hits-k.false _
-    c.first_bad-bad.ensures c.if-bad-trace.false c.run_policy-run.ensures c.fill.ensures
+    let limits = c.in_ok-policy.ensures in
+    count_done _ _ _ _ limits.0 c.if-hits-k.false (sym c.in_ok-all_pages.ensures)
+    (rw limits.1 at c.run_policy-run.ensures) c.fill.ensures

@@ -1,17 +1,33 @@
--- `file::read`: each kind of section is one law.
-use Rattle.file_theory.specs.Answers.{file_cut, file_over, file_whole}
+-- `file::read`: each way out is one law of what the section found is read as.
+use Rattle.std.proofs.Common.{refl}
+use Rattle.file_theory.specs.Answers.{file_refused, trace_missing, not_rising, behind_refused, behind_read}
 use Rattle.file.proofs.read.Goals as goal
 
-pub returns-in-Cut : goal.returns-in-Cut
-returns-in-Cut c = file_cut c.args.file.now c.args.capacities.now c.args.references.now c.in-Cut.ensures
+pub returns-in_err-values : goal.returns-in_err-values
+returns-in_err-values c =
+    let a = c.args in
+    file_refused a.file.now a.capacities.now a.references.now c.from_residual.result _ c.from_residual.ensures.1
+    (trace_missing a.file.now _ c.in_err-values.ensures)
 
-pub returns-in-Over : goal.returns-in-Over
-returns-in-Over c = file_over c.args.file.now c.args.capacities.now c.args.references.now c.in-Over.ensures
+pub returns-then-not-rising : goal.returns-then-not-rising
+returns-then-not-rising c =
+    let a = c.args in
+    file_refused a.file.now a.capacities.now a.references.now _ _ refl
+    (not_rising c.in_ok-values.ensures c.if-not-rising.ensures)
 
-pub returns-in-Values : goal.returns-in-Values
-returns-in-Values c =
-    file_whole c.args.file.now c.args.capacities.now c.args.references.now c.in-Values.n c.take_capacities.result
-    c.take_capacities.new.capacities
-    c.take_capacities.new.references
-    c.in-Values.ensures
-    c.take_capacities.ensures
+pub returns-in_err-references : goal.returns-in_err-references
+returns-in_err-references c =
+    let a = c.args in
+    behind_refused c.in_ok-values.ensures a.capacities.now a.references.now c.read_references.new.table c.if-not-rising.ensures
+    c.from_residual-in_err-references.result
+    _
+    c.from_residual-in_err-references.ensures.1
+    c.in_err-references.ensures
+
+pub returns : goal.returns
+returns c =
+    let a = c.args in
+    behind_read c.in_ok-values.ensures a.capacities.now a.references.now c.read_references.new.table c.if-not-rising.ensures _ _ _
+    c.in_ok-references.ensures
+    c.copy_values-capacities.ensures.count
+    c.copy_values-capacities.ensures.copied

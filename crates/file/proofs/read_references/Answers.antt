@@ -1,15 +1,16 @@
--- `file::read_references`: each kind of section is one law.
-use Rattle.file_theory.specs.Answers.{part_cut, part_over, part_whole}
+-- `file::read_references`: of the ways out that are left, the first is where no section was found, and the last where all is
+-- checked.
+use Rattle.file_theory.specs.Answers.{part_refused, references_missing, part_taken}
 use Rattle.file.proofs.read_references.Goals as goal
 
-pub returns-in-Cut : goal.returns-in-Cut
-returns-in-Cut c = part_cut c.args.part.now c.args.table.now c.in-Cut.ensures
+pub returns-in_err-values : goal.returns-in_err-values
+returns-in_err-values c =
+    let a = c.args in
+    part_refused a.part.now a.table.now c.from_residual.result _ c.from_residual.ensures.1
+    (references_missing a.part.now _ c.in_err-values.ensures)
 
-pub returns-in-Over : goal.returns-in-Over
-returns-in-Over c = part_over c.args.part.now c.args.table.now c.in-Over.ensures
-
-pub returns-in-Values : goal.returns-in-Values
-returns-in-Values c =
-    part_whole c.args.part.now c.args.table.now c.in-Values.n c.take_references.result c.take_references.new.table
-    c.in-Values.ensures
-    c.take_references.ensures
+pub returns : goal.returns
+returns c =
+    part_taken c.in_ok-values.ensures c.args.table.now _ _ _ _ c.in_ok-bytes_left.ensures c.in_ok-first_bad_page.ensures
+    c.copy_values.ensures.count
+    c.copy_values.ensures.copied

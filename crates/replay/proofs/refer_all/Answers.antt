@@ -1,20 +1,17 @@
 -- A law for each step of the loop and each way out of it.
-use Rattle.std.proofs.Common.{arith, sym, ◌∙◌}
-use Rattle.replay.proofs.ReplayLaws.{along_start, along_next, along_stop, along_end}
+use Rattle.std.proofs.Common.{sym, ◌∙◌}
+use Rattle.replay.proofs.ReplayLaws.{along_next, along_stop, along_end}
 use Rattle.replay.proofs.refer_all.Goals as goal
 
-pub loop-i-init : goal.loop-i-init
-loop-i-init c = along_start c.requires
-
-pub returns-then-was_refused : goal.returns-then-was_refused
-returns-then-was_refused c =
-    along_stop c.requires.few c.loop-i.invariant (omega arith) c.refer-referenced.ensures
-    (sym c.was_refused.ensures ∙ c.if-was_refused.true)
+pub returns-then-is_err : goal.returns-then-is_err
+returns-then-is_err c =
+    along_stop c.requires.few c.loop-i.invariant c.loop-i-test.true c.refer.ensures
+    (sym c.is_err.ensures.value ∙ c.if-is_err.true)
 
 pub loop-i-preserved : goal.loop-i-preserved
 loop-i-preserved c =
-    along_next c.requires.few c.loop-i.invariant (omega arith) c.refer-referenced.ensures
-    (sym c.was_refused.ensures ∙ c.if-was_refused.false)
+    along_next c.requires.few c.loop-i.invariant c.loop-i-test.true c.refer.ensures
+    (sym c.is_err.ensures.value ∙ c.if-is_err.false)
 
 pub returns : goal.returns
-returns c = along_end c.loop-i.invariant (omega arith)
+returns c = along_end c.loop-i.invariant c.loop-i-test.false

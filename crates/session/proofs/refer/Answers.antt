@@ -4,11 +4,10 @@ use Rattle.session.proofs.ReferAnswers.{refer_full, refer_bad, refer_done}
 use Rattle.session.proofs.refer.Goals as goal
 
 pub returns-then-s-ge-REFERENCES : goal.returns-then-s-ge-REFERENCES
-returns-then-s-ge-REFERENCES c = rw c.refused.ensures (refer_full c.if-s-ge-REFERENCES.true)
+returns-then-s-ge-REFERENCES c = refer_full c.if-s-ge-REFERENCES.true
 
-pub returns-then-p-ge-PAGES : goal.returns-then-p-ge-PAGES
-returns-then-p-ge-PAGES c =
-    rw c.refused-then-p-ge-PAGES.ensures (refer_bad c.if-s-ge-REFERENCES.false c.if-p-ge-PAGES.true)
+pub returns-then-page-ge-PAGES : goal.returns-then-page-ge-PAGES
+returns-then-page-ge-PAGES c = refer_bad c.if-s-ge-REFERENCES.false c.if-page-ge-PAGES.true
 
 pub returns : goal.returns
 returns c = refer_done (omega arith) (omega arith) c.refer_all-depth.ensures

@@ -4,4 +4,4 @@ use Rattle.count.specs.RunLaws.{followed}
 use Rattle.count.proofs.runs.follow.Goals as goal
 
 pub returns : goal.returns
-returns c = followed c.requires refl c.refer_all.ensures
+returns c = followed c.requires refl (rw c.from.ensures at c.refer_all.ensures)

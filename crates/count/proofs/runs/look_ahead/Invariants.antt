@@ -4,6 +4,3 @@ use Rattle.count.proofs.runs.look_ahead.Given as goal
 
 abbrev pub invariant-loop-i : goal.invariant-loop-i
 invariant-loop-i l = Ahead l.trace l.fn.nexts l.i l.nexts l.coming
-
-abbrev pub decreases-loop-i : goal.decreases-loop-i
-decreases-loop-i l = l.i

@@ -4,4 +4,4 @@ use Rattle.exports.proofs.SessionLaws.{list_unsound}
 use Rattle.exports.proofs.session_reads.musselrung_session_list_parts.Goals as goal
 
 pub returns-then-not-fits : goal.returns-then-not-fits
-returns-then-not-fits c = list_unsound (sym c.fits.ensures ∙ c.if-not-fits.true) c.unsound.ensures
+returns-then-not-fits c = list_unsound (sym c.fits.ensures ∙ c.if-not-fits.true) c.tell.ensures

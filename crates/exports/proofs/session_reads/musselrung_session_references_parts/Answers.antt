@@ -4,4 +4,4 @@ use Rattle.exports.proofs.SessionLaws.{references_unsound}
 use Rattle.exports.proofs.session_reads.musselrung_session_references_parts.Goals as goal
 
 pub returns-then-not-fits : goal.returns-then-not-fits
-returns-then-not-fits c = references_unsound (sym c.fits.ensures ∙ c.if-not-fits.true) c.unsound.ensures
+returns-then-not-fits c = references_unsound (sym c.fits.ensures ∙ c.if-not-fits.true) c.tell.ensures

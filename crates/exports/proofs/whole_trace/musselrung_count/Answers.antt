@@ -6,4 +6,4 @@ use Rattle.exports.proofs.whole_trace.musselrung_count.Goals as goal
 pub returns : goal.returns
 returns c =
     let promised = count_narrowed c.byte_of.ensures c.count-answer.ensures in
-    record { answered = c.tell.ensures ∙ rw promised.answer; table = promised.table }
+    record { answered = c.tell_answer.ensures ∙ rw promised.answer; table = promised.table }

@@ -1,14 +1,19 @@
--- `scan::copy_values`: after i turns the table has the first i values in front, and behind them what stood there.
-use Rattle.std.proofs.Common.{◌≡◌, ◌++◌, ◌≤◌, ◌-◌, length, drop}
-use Rattle.file_theory.specs.Format.{numbers}
+-- `scan::copy_values`: what is left to put into the table, from where the loop stands, makes of it what all values make of
+-- the table as it was lent; and it fits.
+use Rattle.std.proofs.Common.{◌≡◌, ◌+◌, ◌≤◌, length}
+use Rattle.std.proofs.lemmas.List.Edits.{sets}
+use Rattle.std.specs.Slice.Iter.{chunks_exact_rest, chunks_exact_size}
+use Rattle.std.specs.Iterator.Adapters.{enumerate_source, enumerate_count}
+use Rattle.file_theory.specs.Format.{all_numbers}
 use Rattle.file.proofs.scan.copy_values.Given as goal
 
 abbrev pub invariant-loop-i : goal.invariant-loop-i
 invariant-loop-i l = record {
-  within : l.i ≤ l.n;
-  copied : l.table ≡ numbers l.i (drop 2 l.bytes) ++ drop l.i l.initial.table;
-  same_length : length l.table ≡ length l.initial.table;
+  pairs : chunks_exact_size (enumerate_source l.i-iterator) ≡ 2;
+  to_put :
+      sets l.table (enumerate_count l.i-iterator) (all_numbers (chunks_exact_rest (enumerate_source l.i-iterator)))
+      ≡ sets l.initial.table 0 (all_numbers l.values);
+  fits :
+      enumerate_count l.i-iterator + length (all_numbers (chunks_exact_rest (enumerate_source l.i-iterator)))
+      ≤ length l.initial.table;
 }
-
-abbrev pub decreases-loop-i : goal.decreases-loop-i
-decreases-loop-i l = l.n - l.i

@@ -1,14 +1,12 @@
 -- `scan::rising`: while no value broke the rule, the scan of all values says what the scan of the rest says.
-use Rattle.std.proofs.Common.{◌≡◌, ◌≤◌, ◌-◌, drop}
-use Rattle.file_theory.specs.Format.{section_values}
+use Rattle.std.proofs.Common.{◌≡◌}
+use Rattle.std.specs.Slice.Iter.{chunks_exact_rest, chunks_exact_size}
+use Rattle.file_theory.specs.Format.{all_numbers}
 use Rattle.file_theory.specs.Decoding.{rising as rising_of}
 use Rattle.file.proofs.scan.rising.Given as goal
 
-abbrev pub invariant-loop-i : goal.invariant-loop-i
-invariant-loop-i l = record {
-  within : l.i ≤ l.n;
-  unbroken : rising_of 0 (section_values l.n l.bytes) ≡ rising_of l.before (drop l.i (section_values l.n l.bytes));
+abbrev pub invariant-loop-pair : goal.invariant-loop-pair
+invariant-loop-pair l = record {
+  pairs : chunks_exact_size l.pair-iterator ≡ 2;
+  unbroken : rising_of 0 (all_numbers l.values) ≡ rising_of l.before (all_numbers (chunks_exact_rest l.pair-iterator));
 }
-
-abbrev pub decreases-loop-i : goal.decreases-loop-i
-decreases-loop-i l = l.n - l.i

@@ -1,23 +1,18 @@
 -- One sum more is written at each capacity; past the last one the table is as it was.
-use Rattle.std.proofs.Common.{◌≡◌, ◌+◌, refl, ◌∙◌, arith, length-set}
+use Rattle.std.proofs.Common.{refl, arith}
 use Rattle.kept.specs.Tally.{up_to}
-use Rattle.kept.specs.Filled.{word, word_step, sums_start, sums_next, sums_end}
+use Rattle.kept.specs.Filled.{word_step, sums_start, sums_next, sums_end}
 use Rattle.kept.proofs.depths.fill.Goals as goal
 
 pub loop-c-init : goal.loop-c-init
 unfolding up_to
-loop-c-init c = (sums_start _ _, refl, omega arith, refl)
+loop-c-init c = (sums_start _ _, refl)
 
 pub loop-c-preserved : goal.loop-c-preserved
 loop-c-preserved c =
     let depths = c.args.depths.now in
-    let total : c.added-total.result ≡ word (up_to depths (c.loop-c.c + 1)) =
-    c.added-total.ensures ∙ word_step depths c.loop-c.c c.loop-c.total c.loop-c.invariant.1 in (
-      rw total (sums_next depths c.args.hits.now c.loop-c.hits c.loop-c.c (omega arith) c.loop-c.invariant.0),
-      total,
-      omega arith,
-      simp length-set (omega arith),
-    )
+    let total = word_step depths c.loop-c.c c.loop-c.total c.loop-c.invariant.1 in
+    (rw total (sums_next depths c.args.hits.now c.loop-c.hits c.loop-c.c (omega arith) c.loop-c.invariant.0), total)
 
 pub returns : goal.returns
 returns c =

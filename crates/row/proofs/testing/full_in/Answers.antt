@@ -1,10 +1,7 @@
--- One more slot adds its bit.
-use Rattle.std.proofs.Common.{arith}
-use Rattle.row_theory.proofs.TestStepLaws.{full_start, full_next}
+-- The slots that read a frame's number are those of frames.
+use Rattle.std.proofs.Common.{rules}
+use Rattle.row_theory.proofs.TestStepLaws.{full_counted}
 use Rattle.row.proofs.testing.full_in.Goals as goal
 
-pub loop-i-init : goal.loop-i-init
-loop-i-init c = full_start
-
-pub loop-i-preserved : goal.loop-i-preserved
-loop-i-preserved c = rw c.full_bit-full.ensures (full_next c.requires c.loop-i.invariant (omega arith))
+pub returns : goal.returns
+returns c = full_counted c.args.slots.now (search rules)

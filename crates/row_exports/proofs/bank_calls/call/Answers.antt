@@ -4,7 +4,7 @@ use Rattle.row_exports.specs.BanksLaws.{banks_unsound, banks_told}
 use Rattle.row_exports.proofs.bank_calls.call.Goals as goal
 
 pub returns-then-not-sound : goal.returns-then-not-sound
-returns-then-not-sound c = rw c.unsound.ensures (banks_unsound c.sound.ensures c.if-not-sound.true)
+returns-then-not-sound c = rw c.tell.ensures (banks_unsound c.sound.ensures c.if-not-sound.true)
 
 pub returns : goal.returns
 returns c =

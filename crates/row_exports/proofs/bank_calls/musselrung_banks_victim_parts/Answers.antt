@@ -8,4 +8,4 @@ returns-then-sound c =
     open_victim_told c.sound.ensures c.if-sound.true c.victim-victim.ensures c.tell_victim.ensures
 
 pub returns : goal.returns
-returns c = rw c.unsound.ensures (open_victim_unsound c.sound.ensures c.if-sound.false)
+returns c = rw c.tell.ensures (open_victim_unsound c.sound.ensures c.if-sound.false)

@@ -3,4 +3,4 @@ use Rattle.row_exports.specs.RowLaws.{row_sound_told}
 use Rattle.row_exports.proofs.frame_row.musselrung_row_sound_parts.Goals as goal
 
 pub returns : goal.returns
-returns c = row_sound_told c.sound-passes.ensures c.tell_test.ensures
+returns c = row_sound_told c.sound.ensures c.tell_test.ensures

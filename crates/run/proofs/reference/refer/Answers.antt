@@ -1,9 +1,9 @@
 -- One law for LRU, one for the policies that keep ranks.
-use Rattle.run.proofs.ReferredLaws.{referred_lru, referred_ranked}
+use Rattle.run.proofs.ReferredLaws.{referred_lru, referred_ranked, not_lru}
 use Rattle.run.proofs.reference.refer.Goals as goal
 
-pub returns-then-policy-eq-LRU : goal.returns-then-policy-eq-LRU
-returns-then-policy-eq-LRU c = referred_lru c.if-policy-eq-LRU.true c.refer_unranked.ensures
+pub returns-in-Lru : goal.returns-in-Lru
+returns-in-Lru c = rw c.in-Lru.is (referred_lru c.refer_unranked.ensures)
 
-pub returns : goal.returns
-returns c = referred_ranked c.if-policy-eq-LRU.false c.refer_ranked.ensures
+pub returns-in-Lfu : goal.returns-in-Lfu
+returns-in-Lfu c = referred_ranked (not_lru c.in-Lfu.is) c.refer_ranked.ensures

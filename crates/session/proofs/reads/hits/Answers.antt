@@ -1,4 +1,4 @@
--- The answer of the case: the capacity stands, so the number counts. The refusals are found.
+-- The capacity stands, so the number counts. The refusal is found.
 use Rattle.session.proofs.ReadLaws.{hits_read, within_answered}
 use Rattle.session.proofs.reads.hits.Goals as goal
 

@@ -1,13 +1,14 @@
--- One page more is one more summand, and no summand is above 16 bits.
-use Rattle.std.proofs.Common.{refl, arith}
-use Rattle.session.specs.Tests.{total}
-use Rattle.session.specs.TotalLaws.{total_step}
+-- The library's sum fits, as no count is above 16 bits; and it is that of all places of the table.
+use Rattle.std.proofs.Common.{rules, ◌≡◌, ◌∙◌, sym, sum}
+use Rattle.std.proofs.iter.runs.Sources.{sums}
+use Rattle.std.proofs.iter.runs.Made.{chains}
+use Rattle.session.specs.TotalLaws.{total_all}
 use Rattle.session.proofs.soundness.all_counts.Goals as goal
 
-pub loop-p-init : goal.loop-p-init
-unfolding total
-loop-p-init c = (refl, omega arith, omega arith)
+pub sum-requires-clause-fits : goal.sum-requires-clause-fits
+sum-requires-clause-fits c = search (rules, sums)
 
-pub loop-p-preserved : goal.loop-p-preserved
-loop-p-preserved c =
-    (omega (arith, total_step c.args.counts.now c.loop-p.p, c.widened-sum.ensures.0), omega arith, omega arith)
+pub returns : goal.returns
+returns c =
+    let whole : c.sum.result ≡ sum c.args.counts.now = search (rules, chains) in
+    whole ∙ sym (total_all c.args.counts.now _ c.told-counts)

@@ -1,13 +1,14 @@
--- One depth more is one more summand, and no summand is above 32 bits.
-use Rattle.std.proofs.Common.{refl, arith}
-use Rattle.session.specs.Tests.{total}
-use Rattle.session.specs.TotalLaws.{total_step}
+-- The library's sum fits, as no count is above 32 bits; and it is that of all places of the table.
+use Rattle.std.proofs.Common.{rules, ◌≡◌, ◌∙◌, sym, sum}
+use Rattle.std.proofs.iter.runs.Sources.{sums}
+use Rattle.std.proofs.iter.runs.Made.{chains}
+use Rattle.session.specs.TotalLaws.{total_all}
 use Rattle.session.proofs.tests.all_depths.Goals as goal
 
-pub loop-d-init : goal.loop-d-init
-unfolding total
-loop-d-init c = (refl, omega arith, omega arith)
+pub sum-requires-clause-fits : goal.sum-requires-clause-fits
+sum-requires-clause-fits c = search (rules, sums)
 
-pub loop-d-preserved : goal.loop-d-preserved
-loop-d-preserved c =
-    (omega (arith, total_step c.args.depths.now c.loop-d.d, c.wide-sum.ensures.0), omega arith, omega arith)
+pub returns : goal.returns
+returns c =
+    let whole : c.sum.result ≡ sum c.args.depths.now = search (rules, chains) in
+    whole ∙ sym (total_all c.args.depths.now _ c.told-depths)

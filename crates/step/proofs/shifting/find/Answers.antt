@@ -1,10 +1,14 @@
--- The first place that has the old entry is its depth; where none has it, the depth is 0.
-use Rattle.std.proofs.Common.{arith}
-use Rattle.step.proofs.Places.{found_at, found_nowhere}
+-- Behind the places passed over the first that has the entry is the first of all.
+use Rattle.std.proofs.Common.{sym, ◌∙◌}
+use Rattle.step.proofs.Places.{found_behind, missed_behind}
 use Rattle.step.proofs.shifting.find.Goals as goal
 
-pub returns-then-list-i : goal.returns-then-list-i
-returns-then-list-i c = found_at c.loop-i.i c.loop-i.invariant (omega arith) c.if-list-i.true
+pub returns-in_err-behind : goal.returns-in_err-behind
+returns-in_err-behind c =
+    rw c.from_residual.ensures
+    (missed_behind c.passed-from.result c.passed-from.ensures (sym c.place_of.ensures ∙ c.in_err-behind.was))
 
 pub returns : goal.returns
-returns c = found_nowhere c.loop-i.i c.loop-i.invariant (omega arith)
+returns c =
+    found_behind c.passed-from.result c.passed-from.ensures c.in_ok-behind.behind
+    (sym c.place_of.ensures ∙ c.in_ok-behind.was)
