@@ -1,5 +1,5 @@
 -- What holds over any calls of frames and banks from fresh banks (docs/RULES.md, D1, D2, B1 to B6), in the rules' own words.
-use Rattle.std.specs.Prelude.{ℕ, ◌*◌, ◌<◌, ◌≤◌, ◌≡◌, refl, ltb, eqb, Result, Ok, Err}
+use Rattle.std.specs.Prelude.{ℕ, ◌*◌, ◌<◌, ◌≤◌, ◌≡◌, refl, true, false, ltb, eqb, Result, Ok, is_ok}
 use Rattle.std.proofs.Common.{arith, ◌∙◌, ap, eqb-true, eq-eqb, ltb-true, ltb-false}
 use mathlib.Core.List.{List, [], ◌∷◌, reverse_aux, map}
 use Rattle.std.proofs.Math.ListN.{get_or-eq_default}
@@ -8,7 +8,7 @@ use Rattle.rules.specs.Refusals.{refusal_number}
 use Rattle.rules.specs.declared.refusal.Refusal.{Refusal}
 use Rattle.rules.specs.declared.refusal.Refusal.TheVariants.{WrongBankState, BankBusy, BadBank, BankNotOpen}
 use Rattle.rules.specs.Cases.{by_cases}
-use Rattle.row_theory.specs.States.{Call, absent, busy, state_of}
+use Rattle.row_theory.specs.States.{Call, absent, busy, state_of, entry_number}
 use Rattle.row_theory.specs.Row.{Row, victim_among}
 use Rattle.row_theory.specs.History.{states_after, VictimIs}
 use Rattle.row_theory.specs.Runs.{row_after}
@@ -33,17 +33,24 @@ pub bank_numbers : banks ∷ bank_frames ∷ map refusal_number (WrongBankState 
     4 ∷ 16 ∷ 30 ∷ 31 ∷ 32 ∷ 33 ∷ []
 bank_numbers = refl
 
--- B2 as a table in the rules' own numbers: rows close, cut, open; columns off (0), open (1), closing (2)
+-- B2 as a table in the rules' own numbers: rows close, cut, open; columns off (0), open (1), closing (2); 30 is the
+-- refusal
 abbrev each_state : Gating → List (Result ℕ Refusal)
 each_state gating = map (gated_to gating) (0 ∷ 1 ∷ 2 ∷ [])
 
-abbrev wrong : Result ℕ Refusal
-wrong = Err WrongBankState
+abbrev each_gating : List (List (Result ℕ Refusal))
+each_gating = each_state Close ∷ each_state Cut ∷ each_state Open ∷ []
 
-pub gating_table : each_state Close ∷ each_state Cut ∷ each_state Open ∷ [] ≡
-    (wrong ∷ Ok 2 ∷ wrong ∷ []) ∷ (wrong ∷ wrong ∷ Ok 0 ∷ []) ∷ (Ok 1 ∷ wrong ∷ Ok 1 ∷ []) ∷ []
+pub gating_table : map (map entry_number) each_gating ≡
+    (30 ∷ 2 ∷ 30 ∷ []) ∷ (30 ∷ 30 ∷ 0 ∷ []) ∷ (1 ∷ 30 ∷ 1 ∷ []) ∷ []
 unfolding gated_to
 gating_table = refl
+
+-- which of them are next states
+pub gating_accepts : map (map is_ok) each_gating ≡
+    (false ∷ true ∷ false ∷ []) ∷ (false ∷ false ∷ true ∷ []) ∷ (true ∷ false ∷ true ∷ []) ∷ []
+unfolding gated_to
+gating_accepts = refl
 
 -- what holds of the row alone, whatever its calls, holds of the row under banks
 pub of_the_row : (P : Row → Type 0) → ((calls : List Call) → P (row_after calls)) → (history : List Step) →

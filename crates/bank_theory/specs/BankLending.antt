@@ -28,7 +28,7 @@ pub record Dropped (m : Memory) (first many : ℕ) (m' : Memory) : Type 0 where
   pub row : row_in m' ≡ dropping first many (row_in m)
   pub stands : Stands m'
 
--- a loop over a bank's frames has come to this one: none before it is busy
+-- none of a bank's frames before this one is busy
 pub record CalmTo (states : List ℕ) (first at : ℕ) : Type 0 where
   pub more : ℕ
   pub ends : at + more ≡ first + bank_frames

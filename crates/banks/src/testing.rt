@@ -1,5 +1,6 @@
 // The test of a row under banks in lent memory (rule X6): the row's test, and one pass over the gates. It is exact: memory
-// passes it exactly if fresh banks and calls give it (proofs/BankTestLaws.antt of `bank_theory`).
+// passes it exactly if fresh banks and calls give it (proofs/BankTestLaws.antt of `bank_theory`). As in the row's test the parts
+// ask for the lengths of what they read.
 ghost use Rattle.std.specs.Prelude.{◌≡◌, ◌<◌, length};
 ghost use Rattle.rules.specs.Limits.{frames, banks as bank_count};
 ghost use Rattle.rules.specs.AllBelow.{all_below};
@@ -9,7 +10,7 @@ ghost use Rattle.row_theory.specs.Promise.{memory};
 
 use bank_theory::{CLOSING, OFF};
 use row_theory::{ABSENT, PerFrame, PerSlot};
-use rules::{BANK_FRAMES, BANKS, both, pick};
+use rules::{BANK_FRAMES, BANKS, all_pass, both, pick};
 
 // A frame's gate is that of the first frame of its bank, and one of the three; where it is off, the frame is absent.
 #[tactic(auto, unfolding(bank_theory::specs::BankTest::gate_sound))]
@@ -22,19 +23,16 @@ fn gate_sound(gates: &[u8], states: &[u8], first: usize, frame: usize) -> bool
     both(gate == gates[first], fits)
 }
 
-// So it is of each frame of a bank. As in the row's test this loop does not stop where one has failed. It is written out: what
-// it tests is made of two numbers, and `all_pass` of `row` gives one.
-#[tactic(auto, unfolding(rules::specs::AllBelow::all_below, bank_theory::specs::BankTest::bank_sound))]
+// So it is of each frame of a bank.
+#[tactic(auto, unfolding(bank_theory::specs::BankTest::bank_sound))]
 fn bank_sound(gates: &[u8], states: &[u8], bank: usize) -> bool
     requires { (length gates.now ≡ frames) × (length states.now ≡ frames) × (bank < bank_count) }
     ensures { result ≡ «bank_sound_of» gates.now states.now bank }
 {
     let first = bank * BANK_FRAMES as usize;
-    let mut sound = true;
-    for n in 0..BANK_FRAMES as usize {
-        sound = both(sound, gate_sound(gates, states, first, first + n));
-    }
-    sound
+    all_pass(BANK_FRAMES, |n| {
+        gate_sound(gates, states, first, first + usize::from(n))
+    })
 }
 
 // Bank by bank, with a way out: a bank's sixteen gates are compared at once, and not four banks' at a time.

@@ -5,14 +5,14 @@ ghost use Rattle.rules.specs.Limits.{pages};
 ghost use Rattle.std.specs.List.{position};
 ghost use Rattle.std.specs.Prelude.{leb, ◌≡◌};
 
-use rules::{CAPACITIES, PAGES, Policy, REFERENCES, Refusal};
+use rules::{PAGES, Policy, REFERENCES, Refusal, is_capacity};
 
 // The policy of a number, or the first of refusals 5, 1 and 2 that applies.
 pub(crate) fn limits(policy: u8, k: usize, references: usize) -> Result<Policy, Refusal>
     ensures { Limited policy k references result }
 {
     let policy = Policy::try_from(policy)?;
-    if k < 1 || CAPACITIES < k {
+    if !is_capacity(k) {
         return Err(Refusal::BadLimit);
     }
     if REFERENCES < references {

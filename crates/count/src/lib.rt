@@ -13,7 +13,7 @@ use kept::Listing;
 use rules::Refusal;
 
 // Counts the hits of a trace at each capacity from 1 to `k`, all in one pass, into the first `k` entries of `hits`. The policy is
-// a number, any number: one that no policy has is refused.
+// a number, any number, as in `list`: one that no policy has is refused.
 pub fn count(trace: &[u16], policy: u8, k: usize, hits: &mut [u32]) -> Result<(), Refusal>
     ensures { Counted trace.now policy k hits.old hits.new result }
 {

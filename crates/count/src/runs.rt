@@ -57,7 +57,8 @@ fn follow(trace: &[u16], policy: Policy, k: usize, t: usize, nexts: &[u16]) -> R
     }
 }
 
-// For each reference, how near the next reference to its page is, counted from the trace's end: 0 if there is none.
+// For each reference, how near the next reference to its page is, counted from the trace's end: 0 if there is none, as the
+// definitions have it. They stand in an array beside the trace, which is lent as it is.
 fn look_ahead(trace: &[u16], nexts: &mut [u16; REFERENCES])
     requires { LookAhead trace.now nexts.old }
     ensures { nexts.new

@@ -25,7 +25,7 @@ pub fn read_references(part: &[u8], table: &mut [u16; REFERENCES]) -> Result<usi
     Ok(copy_values(values, table))
 }
 
-// A whole trace file, any bytes at all: its capacities and references in the two tables and their counts as
+// A whole trace file, any bytes at all: its capacities and references in the two tables, which C lends, and their counts as
 // the answer, or a refusal and the tables as they were (rules F4, A3). The capacities are written last: only then is
 // all checked.
 pub fn read(

@@ -55,7 +55,8 @@ pub(crate) fn rising(values: &[u8]) -> bool
     true
 }
 
-// The first of the values that is no page number, as a refusal with its index.
+// The first of the values that is no page number, as a refusal with its index. Crate `count` looks so at numbers; these are
+// bytes, since a table is written only when all is checked.
 #[tactic(auto, using(file_theory::specs::Words::turns), unfolding(rules::specs::Refusals::first_bad_page))]
 pub(crate) fn first_bad_page(values: &[u8]) -> Result<(), Refusal>
     ensures { result ≡ «first_bad_page_of» 0 (all_numbers values.now) accepted }

@@ -1,5 +1,5 @@
--- Laws for a loop over a section's values, one number a turn: what the rest of a scan says after a value, and what a table
--- holds after a store.
+-- Laws of a section's values, one after the other: what the rest of a scan says after a value, and what a table holds after a
+-- store.
 use Rattle.std.specs.Prelude.{ℕ, suc, ◌+◌, ◌*◌, ◌≤◌, ◌<◌, ◌≡◌, refl, false, List, [], ◌∷◌, ◌++◌, length, get_or, set, drop, Err}
 use Rattle.std.proofs.Common.{sym, ◌∙◌, add-one, arith, drop-cons, lt-ltb, le-ltb, le-leb}
 use Rattle.std.proofs.Math.Bool.{and-false}
@@ -15,7 +15,7 @@ use Rattle.file_theory.specs.Decoding.{rising}
 use Rattle.file_theory.specs.Promises.{overwritten}
 use Rattle.file_theory.specs.Words.{length_numbers, value_at, numbers_more, number_at_drop}
 
--- the values from i on start with the number that the loop reads there
+-- the values from i on start with the number that stands there
 next_value : (n : ℕ) (bytes : List ℕ) (i : ℕ) → i < n
     → drop i (section_values n bytes) ≡ number_at bytes (2 + 2 * i) ∷ drop (i + 1) (section_values n bytes)
 next_value n bytes i h =

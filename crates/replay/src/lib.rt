@@ -11,7 +11,8 @@ use kept::DEPTHS;
 use rules::{CAPACITIES, PAGES, Page, REFERENCES, Refusal};
 use session::Session;
 
-// Replays a trace under LRU or LFU, and writes the hits at each capacity from 1 to `k` into the first `k` entries of `hits`.
+// Replays a trace under LRU or LFU, and writes the hits at each capacity from 1 to `k` into the first `k` entries of `hits`. Any
+// number is answered for a policy. Refusals 2 and 4 are tested here, as any client of a session that counts a trace has to.
 pub fn replay(trace: &[u16], policy: u8, k: usize, hits: &mut [u32]) -> Result<(), Refusal>
     ensures { Replayed trace.now policy k hits.old hits.new result }
 {

@@ -54,7 +54,7 @@ pub fn report(file: &[u8], out: &mut [u8; REPORT]) -> usize
 }
 
 // The report of a whole input, of which the first `n` bytes of the buffer came before the buffer was full or the
-// input ended.
+// input ended. The whole buffer is taken, and not its first bytes: that it has this length is what the promise needs.
 pub fn report_input(input: &[u8; INPUT], n: usize, out: &mut [u8; REPORT]) -> usize
     ensures { InputPrinted input.now n out.old result out.new }
 {

@@ -22,7 +22,7 @@ use slots::{EMPTY, NOWHERE, shift};
 use table::{held_bit, verdict};
 pub use testing::sound;
 
-// The mark that lets `victim_among` give a frame up; any other number keeps it.
+// The mark that lets `victim_among` give a frame up; any other number keeps it: lent states and gates serve as marks.
 pub const GIVABLE: u8 = 1;
 
 // One of the five calls: put, touch, start, end or drop of a frame (rules W2 to W6, O6). The answer is the slots examined by

@@ -7,7 +7,7 @@ ghost use Rattle.row_theory.specs.Lending.{Indexed, SqueezedNow, TakenSlot, Left
 use row_theory::{Event, PerFrame, PerSlot};
 use rules::{FRAMES, SLOTS};
 
-// What an empty slot reads, and the place of a frame that has no slot.
+// What an empty slot reads, and the place of a frame that has no slot: C lends bytes, and the rules have these numbers (X5).
 pub(crate) const EMPTY: u8 = FRAMES;
 
 pub(crate) const NOWHERE: u8 = SLOTS as u8;

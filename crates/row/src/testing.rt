@@ -15,7 +15,7 @@ ghost use Rattle.row_theory.specs.Promise.{memory};
 
 use crate::slots::{EMPTY, NOWHERE};
 use row_theory::{ABSENT, BUSY, PerFrame, PerSlot};
-use rules::{FRAMES, HELD, SLOTS, both, pick};
+use rules::{FRAMES, HELD, SLOTS, all_pass, pick};
 
 // A slot that holds a frame is not below the front; any other is empty. All numbers are bytes, of which sixteen are compared
 // at a time.
@@ -59,18 +59,6 @@ fn frame_sound(places: &[u8], states: &[u8], frame: u8) -> bool
         return false;
     }
     place < NOWHERE
-}
-
-// Does the test pass at each number below n? The loop goes on where one has failed: without a way out many are tested at a time.
-fn all_pass<F: Fn(u8) -> bool>(n: u8, test: F) -> bool
-    requires { (i : ℕ) → i < n → F.pre test i }
-    ensures { (p : ℕ → Bool) → ((i : ℕ) (r : Bool) → i < n → F.post test i r → r ≡ p i) → result ≡ all_below p n }
-{
-    let mut sound = true;
-    for i in 0..n {
-        sound = both(sound, test(i));
-    }
-    sound
 }
 
 fn slots_sound(slots: &[u8], front: u8) -> bool

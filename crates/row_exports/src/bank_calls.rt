@@ -14,7 +14,8 @@ use bank_theory::Gating;
 use row_theory::{Event, PerFrame, PerSlot};
 use rules::{Bank, Frame, Refusal, byte_of, tell};
 
-// One of the five frame calls, told in numbers.
+// One of the five frame calls, told in numbers. Calls of frames, of banks and of rows alone are lent other memory in parts, so
+// each kind has a function of its own.
 fn call(
     slots: &mut PerSlot,
     places: &mut PerFrame,

@@ -6,7 +6,9 @@
 mod policy;
 mod refusal;
 
-ghost use Rattle.std.specs.Prelude.{min, ◌≡◌, cond, ◌&&◌};
+ghost use Rattle.std.specs.Prelude.{ℕ, Bool, min, ◌≡◌, ◌<◌, cond, ◌&&◌};
+ghost use Rattle.rules.specs.AllBelow.{all_below};
+ghost use Rattle.rules.specs.Limits.{is_capacity as «is_capacity_of»};
 
 pub use policy::Policy;
 pub use refusal::{Refusal, tell};
@@ -38,6 +40,13 @@ pub const BANKS: u8 = 4;
 
 pub const BANK_FRAMES: u8 = 16;
 
+// Is this a capacity (rule L1)?
+pub fn is_capacity(k: usize) -> bool
+    ensures { result ≡ «is_capacity_of» k }
+{
+    1 <= k && k <= CAPACITIES
+}
+
 // C passes a page, a frame, a bank and a policy as 32 bits, so that none is cut on its way (rule X1). A number that the
 // narrower kind does not hold becomes that kind's largest, which is past every limit as well. One function for both kinds
 // would need a trait with the largest number of each and its law, where each body is one call.
@@ -66,4 +75,16 @@ pub fn pick(test: bool, yes: bool, otherwise: bool) -> bool
     ensures { result ≡ cond test yes otherwise }
 {
     if test { yes } else { otherwise }
+}
+
+// Does the test pass at each number below n? The loop goes on where one has failed: without a way out many are tested at a time.
+pub fn all_pass<F: Fn(u8) -> bool>(n: u8, test: F) -> bool
+    requires { (i : ℕ) → i < n → F.pre test i }
+    ensures { (p : ℕ → Bool) → ((i : ℕ) (r : Bool) → i < n → F.post test i r → r ≡ p i) → result ≡ all_below p n }
+{
+    let mut sound = true;
+    for i in 0..n {
+        sound = both(sound, test(i));
+    }
+    sound
 }

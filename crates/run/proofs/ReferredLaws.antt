@@ -109,6 +109,10 @@ taken_as number (Err r) none =
       lfu_is = ne_eqb number lfu (λ q. omega (arith, q, none.1));
     }
 
+pub taken_by : (number : ℕ) (r : Result Policy Refusal) (policy : Policy) → PolicyOf number r → policy ≡ result_unwrap_or r Opt
+    → TakenAs number policy
+taken_by number r policy told e = rw e (taken_as number r told)
+
 pub referred_as : {number page near next n k : ℕ} {places depths counts places' depths' counts' : List ℕ} {r : Step}
     {policy : Policy} → TakenAs number policy
     → Referred (policy_number policy) page near next n k places depths counts places' depths' counts' r

@@ -14,7 +14,7 @@ mod tests;
 
 use kept::DEPTHS;
 pub use reads::{hits, list, misses, references};
-use rules::{CAPACITIES, PAGES, Page, Policy, REFERENCES, Refusal};
+use rules::{CAPACITIES, PAGES, Page, Policy, REFERENCES, Refusal, is_capacity};
 pub use soundness::sound;
 pub use tests::{adds_up, countable, fits};
 
@@ -37,8 +37,8 @@ fn session_policy(number: u8) -> Result<Policy, Refusal>
     }
 }
 
-// Starts a session under a policy with a list of `k` places, in tables of any content. A refused start gives no session and
-// leaves the tables as they are.
+// Starts a session under a policy with a list of `k` places, in tables of any content. Any number is answered for a policy. A
+// refused start gives no session and leaves the tables as they are.
 pub fn start(
     policy: u8,
     k: usize,
@@ -51,7 +51,7 @@ pub fn start(
         places.new depths.new counts.new result }
 {
     session_policy(policy)?;
-    if k < 1 || CAPACITIES < k {
+    if !is_capacity(k) {
         return Err(Refusal::BadLimit);
     }
     *places = [0; CAPACITIES];

@@ -11,20 +11,14 @@ ghost use Rattle.session.specs.Tests.{counts_add_up as «counts_add_up_of»};
 
 use crate::{Session, countable};
 use kept::DEPTHS;
-use rules::{CAPACITIES, PAGES, Policy};
+use rules::{CAPACITIES, PAGES, Policy, all_pass};
 
-// Do other pages stand in all places before this one? The loop goes on where one has failed: without a way out it is done
-// many places at a time.
-#[tactic(auto, unfolding(rules::specs::AllBelow::all_below))]
+// Do other pages stand in all places before this one?
 fn not_before(places: &[u32; CAPACITIES], page: u16, i: usize) -> bool
     requires { i < capacities }
     ensures { result ≡ all_below (stands_else places.now page) i }
 {
-    let mut alone = true;
-    for j in 0..i {
-        alone &= kept::page(places[j]) != page;
-    }
-    alone
+    all_pass(i as u8, |j| kept::page(places[usize::from(j)]) != page)
 }
 
 // Does a page stand in this place, with its count beside it, and in none before?
@@ -60,12 +54,9 @@ fn place_stands(
 fn places_stand(used: usize, places: &[u32; CAPACITIES], counts: &[u16; PAGES as usize]) -> bool
     ensures { result ≡ all_below («place_stands_of» used places.now counts.now) capacities }
 {
-    for i in 0..CAPACITIES {
-        if !place_stands(used, places, counts, i) {
-            return false;
-        }
-    }
-    true
+    all_pass(CAPACITIES as u8, |i| {
+        place_stands(used, places, counts, usize::from(i))
+    })
 }
 
 // How often any page was counted.

@@ -6,7 +6,7 @@ ghost use Rattle.session.specs.Tests.{fits as «fits_of», adds_up as «adds_up_
 
 use crate::{Session, session_policy};
 use kept::DEPTHS;
-use rules::{CAPACITIES, REFERENCES};
+use rules::{REFERENCES, is_capacity};
 
 // X2: do its numbers fit?
 #[tactic(auto, unfolding(crate::specs::Tests::fits))]
@@ -14,14 +14,13 @@ pub fn fits(s: Session) -> bool
     ensures { result ≡ «fits_of» s }
 {
     session_policy(s.policy).is_ok()
-        && 1 <= s.k
-        && s.k <= CAPACITIES
+        && is_capacity(s.k)
         && s.length <= s.k
         && s.references <= REFERENCES
 }
 
-// How often any depth came. `all_counts` is the same line over 16 bits: one function for both would need a bound on what its
-// conversion gives, and be no plainer.
+// How often any depth came. `all_counts` is the same line over 16 bits, and `kept::sum` adds up a part of this table: one
+// function for all would need a bound on what its conversion gives and on how long a list is, and be no plainer.
 fn all_depths(depths: &[u32; DEPTHS]) -> usize
     ensures { result ≡ total depths.now (suc capacities) }
 {

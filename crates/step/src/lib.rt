@@ -110,7 +110,8 @@ fn settle(list: &mut [u32], used: usize, k: usize, carried: ControlFlow<usize, u
     }
 }
 
-// A reference under LRU to the page of `entry`, in a list of `n` places that may grow to `k`.
+// A reference under LRU to the page of `entry`, in a list of `n` places that may grow to `k`. The memory that C lends is longer
+// than the list, so the list is this slice and `n`.
 pub fn shift(list: &mut [u32], n: usize, k: usize, entry: u32) -> Step
     ensures { Stepped always k entry entry n list.old list.new result }
 {

@@ -1,7 +1,7 @@
 -- One more number passes or does not.
 use Rattle.std.proofs.Common.{arith}
 use Rattle.rules.specs.AllBelow.{all_start, all_also, all_done}
-use Rattle.row.proofs.testing.all_pass.Goals as goal
+use Rattle.rules.proofs.all_pass.Goals as goal
 
 pub loop-i-init : goal.loop-i-init
 loop-i-init g c = λ p each. all_start

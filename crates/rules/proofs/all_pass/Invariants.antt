@@ -1,7 +1,7 @@
 -- Whether every number so far passes.
 use Rattle.std.proofs.Common.{ℕ, Bool, ◌≡◌, ◌<◌}
 use Rattle.rules.specs.AllBelow.{AllTo}
-use Rattle.row.proofs.testing.all_pass.Given as goal
+use Rattle.rules.proofs.all_pass.Given as goal
 
 abbrev pub invariant-loop-i : goal.invariant-loop-i
 invariant-loop-i g l =
