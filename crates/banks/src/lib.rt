@@ -123,7 +123,7 @@ pub fn gate(
     }
     let first = b * BANK_FRAMES;
     let next = gated_to(gating, gates[first as usize])?;
-    // a cut is the only way to off
+    // a cut is the only way to off; asked of the state, what `cut` asks for is one law away
     if next == OFF {
         return cut(slots, places, states, front, held, gates, b);
     }

@@ -30,7 +30,8 @@ pub(crate) fn run_policy(trace: &[u16], policy: Policy, k: usize, t: usize) -> R
     }
 }
 
-// The first `t` references. `nexts` has each reference's next rank where the policy looks ahead.
+// The first `t` references of an accepted trace, whose length fits 16 bits. `nexts` has each reference's next rank where the
+// policy looks ahead.
 fn follow(trace: &[u16], policy: Policy, k: usize, t: usize, nexts: &[u16]) -> Run
     requires { Followable trace.now (policy_number policy) k t nexts.now }
     ensures { Ran (policy_number policy) trace.now k t result }

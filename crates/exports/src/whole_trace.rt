@@ -30,7 +30,7 @@ pub extern "C" fn musselrung_count(
     tell_answer(answer, value)
 }
 
-// The page numbers of places.
+// The page numbers of places. Written out: of an array's `map` the proof that these are the numbers did not close.
 pub(crate) fn page_numbers(shown: [Page; CAPACITIES]) -> [u16; CAPACITIES]
     ensures { result ≡ map page_number shown }
 {

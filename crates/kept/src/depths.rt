@@ -17,7 +17,7 @@ pub fn sum(depths: &[u32; DEPTHS], c: usize) -> usize
     total(&depths[1..last + 1])
 }
 
-// The counts together, in a wider type: so many of 32 bits fit.
+// The counts together, in a wider type: so many of 32 bits fit. By `as`, since std has no `From` of 32 bits for `usize`.
 fn total(counts: &[u32]) -> usize
     requires { length counts.now ≤ capacities }
     ensures { result ≡ «sum_of» counts.now }

@@ -12,6 +12,7 @@ pub use depths::{DEPTHS, fill, sum};
 pub use shown::{Listing, show};
 
 // The entry of a page with a rank: the rank above, the page below, turned round since the smaller page number is the higher.
+// Packed by hand, as C reads it in a session's places (rule X4).
 #[tactic(auto, unfolding(crate::specs::Entries::entry))]
 pub fn entry(rank: u16, page: u16) -> u32
     ensures { result ≡ «entry_of» (λ p. rank) page }

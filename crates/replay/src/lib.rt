@@ -32,7 +32,7 @@ pub fn replay(trace: &[u16], policy: u8, k: usize, hits: &mut [u32]) -> Result<(
 }
 
 // The trace's references, up to the first that is refused. There is room for all of them, so that one is no page; its place
-// is its index.
+// is its index. The tables are in parts, as a session takes them.
 fn refer_all(
     s: &mut Session,
     trace: &[u16],

@@ -119,7 +119,7 @@ pub fn victim(
     victim_among(slots, states, states, front, held)
 }
 
-// The state of one frame, whatever its number: 0 absent, 1 idle, 2 busy.
+// The state of one frame, whatever its number: 0 absent, 1 idle, 2 busy, and any byte that else stands in the memory.
 pub fn state_of(states: &PerFrame, frame: Frame) -> u8
     ensures { result ≡ state_in states.now frame.0 }
 {

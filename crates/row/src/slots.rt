@@ -13,7 +13,7 @@ pub(crate) const EMPTY: u8 = FRAMES;
 pub(crate) const NOWHERE: u8 = SLOTS as u8;
 
 // The held frames packed against the last slot, order kept; the answer is the new front (rule W3). A frame never lands below
-// the slot it is read from, so nothing is written over before it is read.
+// the slot it is read from, so nothing is written over before it is read. Slots are below 64, so the number of one fits a byte.
 fn squeeze(slots: &mut PerSlot, places: &mut PerFrame) -> usize
     requires { Indexed slots.old places.old }
     ensures { SqueezedNow slots.old result slots.new places.new }

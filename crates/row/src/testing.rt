@@ -125,7 +125,7 @@ fn room_sound(slots: &[u8], front: usize, held: usize) -> bool
     held <= HELD
 }
 
-// The parts of the test, the cheapest first.
+// The parts of the test, the cheapest first. A front past 64 has failed before it is made a byte.
 #[tactic(auto, unfolding(row_theory::specs::RowTest::row_sound))]
 fn tested(slots: &[u8], places: &[u8], states: &[u8], front: usize, held: usize) -> bool
     requires { Sized (memory slots.now places.now states.now front held) }

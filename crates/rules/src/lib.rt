@@ -70,7 +70,7 @@ pub fn both(one: bool, two: bool) -> bool
     one & two
 }
 
-// One of two tests, of which neither is left out.
+// One of two tests, of which neither is left out. An `if`, named so that a test reads as its rule does.
 pub fn pick(test: bool, yes: bool, otherwise: bool) -> bool
     ensures { result ≡ cond test yes otherwise }
 {

@@ -17,11 +17,7 @@ use step::{Step, place, shift};
 fn count_of(counts: &[u16; PAGES as usize], page: u16) -> u16
     ensures { result ≡ count_in counts.now page }
 {
-    if page < PAGES {
-        counts[page as usize]
-    } else {
-        0
-    }
+    counts.get(usize::from(page)).copied().unwrap_or(0)
 }
 
 // Keeps the count of a page, and of nothing else.
@@ -135,10 +131,10 @@ fn refer(
 fn next_at(nexts: &[u16], i: usize) -> u16
     ensures { result ≡ get_or nexts.now i 0 }
 {
-    if i < nexts.len() { nexts[i] } else { 0 }
+    nexts.get(i).copied().unwrap_or(0)
 }
 
-// How many references are left from the reference `i` on.
+// How many references are left from the reference `i` on: no more than `left`, so it fits.
 fn left_at(left: u16, i: usize) -> u16
     ensures { result ≡ left - i }
 {

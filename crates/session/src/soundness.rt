@@ -13,7 +13,7 @@ use crate::{Session, countable};
 use kept::DEPTHS;
 use rules::{CAPACITIES, PAGES, Policy, all_pass};
 
-// Do other pages stand in all places before this one?
+// Do other pages stand in all places before this one? Places are below 64, so their number fits a byte.
 fn not_before(places: &[u32; CAPACITIES], page: u16, i: usize) -> bool
     requires { i < capacities }
     ensures { result ≡ all_below (stands_else places.now page) i }
@@ -59,7 +59,7 @@ fn places_stand(used: usize, places: &[u32; CAPACITIES], counts: &[u16; PAGES as
     })
 }
 
-// How often any page was counted.
+// How often any page was counted; `all_depths` says why it has a line of its own.
 fn all_counts(counts: &[u16; PAGES as usize]) -> usize
     ensures { result ≡ total counts.now pages }
 {
