@@ -1,18 +1,17 @@
 -- Laws of banks (definitions: Banks): the frames of a bank are a range of numbers, and what an accepted bank call says.
-use Rattle.std.specs.Prelude.{ℕ, zero, suc, ◌+◌, ◌*◌, ◌<◌, ◌≤◌, ◌≡◌, refl, Bool, true, false, cond, ◌&&◌, List, leb, eqb}
+use Rattle.std.specs.Prelude.{ℕ, zero, suc, ◌+◌, ◌*◌, ◌<◌, ◌≤◌, ◌≡◌, refl, Bool, true, false, ◌&&◌, List, leb, eqb}
 use Rattle.std.specs.Prelude.{Result, Ok, Err, is_ok, IfErr, MatchResult}
-use Rattle.std.specs.Result.{result_and}
 use Rattle.std.proofs.Common.{arith, sym, ◌∙◌, ap, eqb-true, eq-eqb, le-leb, le-ltb, lt-ltb, leb-true, leb-false}
 use Rattle.std.proofs.lemmas.Result.{MatchResult-at_ok}
 use Rattle.std.proofs.lemmas.Bool.{eqb-false}
 use Rattle.rules.specs.Limits.{frames, bank_frames}
 use Rattle.rules.specs.Limits
-use Rattle.rules.specs.Refusals.{bank_busy, refusal_number, refusal_place}
+use Rattle.rules.specs.Refusals.{number_of, bank_busy, refusal_number, refusal_place}
 use Rattle.rules.specs.declared.refusal.Refusal.{Refusal}
 use Rattle.rules.specs.declared.refusal.Refusal.TheVariants.{WrongBankState, BankBusy, BadBank}
-use Rattle.rules.specs.AnswerLaws.{not_accepted}
+use Rattle.rules.specs.AnswerLaws.{not_accepted, in_order, passed}
 use Rattle.rules.specs.Cases.{by_cases, clash, and_right}
-use Rattle.row_theory.specs.States.{busy, state_of, number_in}
+use Rattle.row_theory.specs.States.{busy, state_of}
 use Rattle.row_theory.specs.StateLaws.{number_ok}
 use Rattle.bank_theory.specs.declared.Gating.{Gating}
 use Rattle.bank_theory.specs.declared.Gating.TheVariants.{Close, Cut, Open}
@@ -70,24 +69,6 @@ only_cut Cut state is =
 only_cut Open state is =
     by_cases (eqb state opened) (λ e. not_accepted (rw e at is)) (λ e. absurd (omega (arith, same_ok (rw e at is))))
 
--- O8: the order of refusals, over its tests
-abbrev in_order : Bool → Bool → Result ℕ Refusal → Result ℕ Refusal
-in_order past some next = cond past (Err BadBank) (result_and next (cond some (Err BankBusy) next))
-
--- no test stands against an accepted bank call
-record Passed (past some : Bool) (next : Result ℕ Refusal) : Type 0 where
-  pub state : ℕ
-  pub bank : past ≡ false
-  pub allowed : next ≡ Ok state
-  pub calm : some ≡ false
-  pub verdict : in_order past some next ≡ Ok state
-
-passed : (past some : Bool) (next : Result ℕ Refusal) → is_ok (in_order past some next) ≡ true → Passed past some next
-passed true some next e = clash e refl
-passed false some (Err r) e = clash e refl
-passed false true (Ok state) e = clash e refl
-passed false false (Ok state) e = record { state = state; bank = refl; allowed = refl; calm = refl; verdict = refl }
-
 -- what acceptance says
 pub record Taken (states banks : List ℕ) (gating : Gating) (bank : ℕ) : Type 0 where
   pub small : bank < Limits.banks
@@ -102,9 +83,9 @@ pub taken : (states banks : List ℕ) (gating : Gating) (bank : ℕ) → takes s
 unfolding gating_verdict
 taken states banks gating bank e =
     let some = is_cut gating && busy_in states bank in
-    let tests = passed (leb Limits.banks bank) some (gated_to gating (bank_state banks bank)) e in
+    let tests = passed (leb Limits.banks bank) BadBank some BankBusy (gated_to gating (bank_state banks bank)) e in
     record {
-      small = leb-false Limits.banks bank tests.bank;
+      small = leb-false Limits.banks bank tests.small;
       state = tests.state;
       verdict = tests.verdict;
       allowed = tests.allowed;
@@ -141,7 +122,8 @@ takes_from states banks gating bank none =
 
 -- A1: a refused bank call has no place
 placeless : (past some : Bool) (next : Result ℕ Refusal) →
-    MatchResult next (λ s. s ≤ closing) (λ r. r ≡ WrongBankState) → IfErr (in_order past some next) (λ r. refusal_place r ≡ 0)
+    MatchResult next (λ s. s ≤ closing) (λ r. r ≡ WrongBankState)
+    → IfErr (in_order past BadBank some BankBusy next) (λ r. refusal_place r ≡ 0)
 placeless true some next h = refl
 placeless false some (Err r) h = ap refusal_place h
 placeless false true (Ok state) h = refl
@@ -175,7 +157,7 @@ busy_there states bank some =
 
 -- so 31 is given only where a frame of the bank is busy
 only_busy : (past some : Bool) (next : Result ℕ Refusal) → MatchResult next (λ s. s ≤ closing) (λ r. r ≡ WrongBankState) →
-    number_in (in_order past some next) ≡ bank_busy → some ≡ true
+    number_of (in_order past BadBank some BankBusy next) ≡ bank_busy → some ≡ true
 only_busy true some next h e = absurd (omega arith)
 only_busy false some (Err r) h e = absurd (omega (arith, ap refusal_number h))
 only_busy false true (Ok state) h e = refl

@@ -2,11 +2,10 @@
 use Rattle.std.specs.Prelude.{ℕ, ◌≡◌, refl, List, ◌∷◌, Result, Ok, Err, IfErr}
 use Rattle.std.specs.Result.{result_and}
 use Rattle.std.proofs.Common.{sym, ◌∙◌, ap}
-use Rattle.rules.specs.Refusals.{refusal_place}
+use Rattle.rules.specs.Refusals.{number_of, refusal_place}
 use Rattle.rules.specs.declared.Frame.{Frame}
 use Rattle.rules.specs.declared.refusal.Refusal.{Refusal}
 use Rattle.rules.specs.Cases.{by_cases}
-use Rattle.row_theory.specs.States.{number_in}
 use Rattle.row_theory.specs.Slots.{places_in}
 use Rattle.row_theory.specs.Row.{reply_number, reply_place}
 use Rattle.row_theory.specs.Runs.{Reached}
@@ -24,7 +23,7 @@ use Rattle.bank_theory.proofs.BankLaws.{gating_placeless}
 use Rattle.bank_theory.proofs.BankTheorems.{victim_under_says}
 
 -- O7, O8, A1: the number and the place of what a call answers
-number_then : (v : Result ℕ Refusal) → reply_number (result_and v (Ok 0)) ≡ number_in v
+number_then : (v : Result ℕ Refusal) → reply_number (result_and v (Ok 0)) ≡ number_of v
 number_then (Ok state) = refl
 number_then (Err r) = refl
 

@@ -6,11 +6,11 @@ use Rattle.std.specs.Prelude.{get_or, replicate, Result, Ok, Err, is_ok}
 use Rattle.std.specs.Result.{result_and}
 use Rattle.rules.specs.Limits.{frames, bank_frames}
 use Rattle.rules.specs.Limits
-use Rattle.rules.specs.Refusals.{bank_not_open}
+use Rattle.rules.specs.Refusals.{number_of, bank_not_open}
 use Rattle.rules.specs.declared.refusal.Refusal.{Refusal}
 use Rattle.rules.specs.declared.refusal.Refusal.TheVariants.{WrongBankState, BankBusy, BadBank}
 use Rattle.rules.specs.Lists.{values_from}
-use Rattle.row_theory.specs.States.{Call, absent, busy, state_of, number_in, refusal_of, states_by, states_then}
+use Rattle.row_theory.specs.States.{Call, absent, busy, state_of, refusal_of, states_by, states_then}
 use Rattle.row_theory.specs.declared.Event.{Event}
 use Rattle.row_theory.specs.declared.Event.TheVariants.{Put, Touch, Start, End, Drop}
 use Rattle.bank_theory.specs.declared.Gating.{Gating}
@@ -79,7 +79,7 @@ gating_verdict states banks gating bank =
 
 -- the refusal's number; 0 stands for "no refusal"
 unfoldable pub gating_refusal : List ℕ → List ℕ → Gating → ℕ → ℕ
-gating_refusal states banks gating bank = number_in (gating_verdict states banks gating bank)
+gating_refusal states banks gating bank = number_of (gating_verdict states banks gating bank)
 
 -- is a bank call accepted, and is it an accepted cut?
 abbrev pub takes : List ℕ → List ℕ → Gating → ℕ → Bool

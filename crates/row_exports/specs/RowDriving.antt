@@ -7,11 +7,11 @@ use Rattle.std.proofs.Common.{arith, sym, ◌∙◌, ap}
 use Rattle.rules.specs.Limits.{frames, held}
 use Rattle.rules.specs.Limits
 use Rattle.rules.specs.Cases.{by_cases, clash}
-use Rattle.rules.specs.Refusals.{unsound}
+use Rattle.rules.specs.Refusals.{number_of, unsound}
 use Rattle.rules.specs.declared.refusal.Refusal.{Refusal}
 use Rattle.rules.specs.declared.refusal.Refusal.TheVariants.{BadFrame, RowFull, BadBank, WrongBankState, BankBusy}
 use Rattle.rules.specs.Told.{Told}
-use Rattle.row_theory.specs.States.{Call, state_of, table_at, cell_of, held_in, is_put, verdict_of, number_in, refusal_of}
+use Rattle.row_theory.specs.States.{Call, state_of, table_at, cell_of, held_in, is_put, verdict_of, refusal_of}
 use Rattle.row_theory.specs.Row.{reply_of}
 use Rattle.row_theory.specs.Runs.{row_after}
 use Rattle.row_theory.specs.Promise.{Memory, row_in, FreshRow}
@@ -44,7 +44,7 @@ any_state P a i b more (suc (suc zero)) = b
 any_state P a i b more (suc (suc (suc n))) = more n
 
 abbrev Small : Result ℕ Refusal → Type 0
-Small r = number_in r < unsound
+Small r = number_of r < unsound
 
 abbrev SmallAt : Event → ℕ → Type 0
 SmallAt event state = Small (table_at state event)

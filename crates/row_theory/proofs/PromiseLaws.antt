@@ -2,10 +2,10 @@
 use Rattle.std.specs.Prelude.{ℕ, ◌≡◌, refl, Bool, List, [], ◌∷◌, Result, Ok, Err, IfErr}
 use Rattle.std.specs.Result.{result_and}
 use Rattle.std.proofs.Common.{sym, ◌∙◌, ap, subst, subst₂}
-use Rattle.rules.specs.Refusals.{refusal_place}
+use Rattle.rules.specs.Refusals.{number_of, refusal_place}
 use Rattle.rules.specs.declared.Frame.{Frame}
 use Rattle.rules.specs.declared.refusal.Refusal.{Refusal}
-use Rattle.row_theory.specs.States.{Call, number_in, verdict_of, refusal_of}
+use Rattle.row_theory.specs.States.{Call, verdict_of, refusal_of}
 use Rattle.row_theory.specs.Slots.{places_in, examined_then}
 use Rattle.row_theory.specs.StateLaws.{verdict_placeless}
 use Rattle.row_theory.specs.Row.{Row, empty_row, after, reply_of, reply_number, reply_place, victim_among}
@@ -17,7 +17,7 @@ use Rattle.row_theory.proofs.SoundRow.{Sound, sound_after}
 use Rattle.row_theory.proofs.Theorems.{victim_says}
 
 -- A1: the number and the place of what a call answers
-number_then : (v : Result ℕ Refusal) (n : ℕ) → reply_number (result_and v (Ok n)) ≡ number_in v
+number_then : (v : Result ℕ Refusal) (n : ℕ) → reply_number (result_and v (Ok n)) ≡ number_of v
 number_then (Ok next) n = refl
 number_then (Err r) n = refl
 

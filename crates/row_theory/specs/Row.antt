@@ -3,11 +3,11 @@ use Rattle.std.specs.Prelude.{ℕ, Bool, true, cond, ◌&&◌, List, [], ◌∷�
 use Rattle.std.specs.Result.{result_and}
 use Rattle.rules.specs.Limits.{frames}
 use Rattle.rules.specs.Limits
-use Rattle.rules.specs.Refusals.{refusal_number, refusal_place}
+use Rattle.rules.specs.Refusals.{number_of, place_of, refusal_number}
 use Rattle.rules.specs.declared.Frame.{Frame}
 use Rattle.rules.specs.declared.refusal.Refusal.{Refusal}
 use Rattle.rules.specs.declared.refusal.Refusal.TheVariants.{NothingHeld, AllBusy}
-use Rattle.row_theory.specs.States.{Call, idle, state_of, fresh_states, held_in, number_in, verdict_of, accepts, states_then}
+use Rattle.row_theory.specs.States.{Call, idle, state_of, fresh_states, held_in, verdict_of, accepts, states_then}
 use Rattle.row_theory.specs.Slots.{empty, slots_then, front_then, examined_then, oldest}
 
 -- the whole state: the slots, the states of all frames, the front mark, and the number of frames held
@@ -41,11 +41,10 @@ reply_of row call = result_and (verdict_of row.states call) (Ok (examined_then c
 
 -- the rules' number of a reply (0: no refusal), its place, and its slots examined
 abbrev pub reply_number : Result ℕ Refusal → ℕ
-reply_number reply = number_in reply
+reply_number reply = number_of reply
 
 abbrev pub reply_place : Result ℕ Refusal → ℕ
-reply_place (Ok n) = 0
-reply_place (Err r) = refusal_place r
+reply_place reply = place_of reply
 
 abbrev pub examined_of : Result ℕ Refusal → ℕ
 examined_of (Ok n) = n

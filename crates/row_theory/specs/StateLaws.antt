@@ -1,18 +1,17 @@
 -- Laws of the state table and of the list of states (definitions: States). The table's rule is proved once, over all of its
 -- fifteen entries.
-use Rattle.std.specs.Prelude.{ℕ, zero, suc, ◌+◌, ◌<◌, ◌≤◌, ◌≡◌, refl, Bool, true, false, cond, ◌&&◌, List, [], ◌∷◌, leb, eqb}
+use Rattle.std.specs.Prelude.{ℕ, zero, suc, ◌+◌, ◌<◌, ◌≤◌, ◌≡◌, refl, Bool, true, false, ◌&&◌, List, [], ◌∷◌, leb, eqb}
 use Rattle.std.specs.Prelude.{length, get_or, set, Result, Ok, Err, is_ok, IfOk, IfErr, MatchResult}
 use Rattle.std.proofs.lemmas.Result.{IfOk-at_ok, MatchResult-at_ok}
-use Rattle.std.specs.Result.{result_and}
 use Rattle.std.proofs.Common.{zero-le, not-suc-le-zero, le_of_suc-le-suc, arith, leb-false}
 use Rattle.rules.specs.Limits.{frames, held}
-use Rattle.rules.specs.Refusals.{refusal_number, refusal_place}
+use Rattle.rules.specs.Refusals.{number_of, refusal_number, refusal_place}
 use Rattle.rules.specs.declared.refusal.Refusal.{Refusal}
 use Rattle.rules.specs.declared.refusal.Refusal.TheVariants.{BadFrame, RowFull}
 use Rattle.rules.specs.Cases.{by_cases, clash}
-use Rattle.rules.specs.AnswerLaws.{not_accepted}
+use Rattle.rules.specs.AnswerLaws.{not_accepted, in_order, passed}
 use Rattle.row_theory.specs.States.{Call, absent, idle, busy, table_at, cell_of, held_bit, held_in, rule_of, is_put, verdict_of}
-use Rattle.row_theory.specs.States.{accepts, state_of, number_in}
+use Rattle.row_theory.specs.States.{accepts, state_of}
 use Rattle.row_theory.specs.declared.Event.{Event}
 use Rattle.row_theory.specs.declared.Event.TheVariants.{Put, Touch, Start, End, Drop}
 
@@ -133,38 +132,20 @@ pub record Acceptance (states : List ℕ) (call : Call) : Type 0 where
   pub known : state ≤ busy
   pub room : is_put call.event ≡ true → held_in states < held
 
--- the order of refusals, over its tests
-abbrev in_order : Bool → Bool → Result ℕ Refusal → Result ℕ Refusal
-in_order past full cell = cond past (Err BadFrame) (result_and cell (cond full (Err RowFull) cell))
-
--- no test stands against an accepted call
-record Passed (past full : Bool) (cell : Result ℕ Refusal) : Type 0 where
-  pub state : ℕ
-  pub frame : past ≡ false
-  pub table : cell ≡ Ok state
-  pub room : full ≡ false
-  pub next : in_order past full cell ≡ Ok state
-
-passed : (past full : Bool) (cell : Result ℕ Refusal) → is_ok (in_order past full cell) ≡ true → Passed past full cell
-passed true full cell e = clash e refl
-passed false full (Err r) e = clash e refl
-passed false true (Ok state) e = clash e refl
-passed false false (Ok state) e = record { state = state; frame = refl; table = refl; room = refl; next = refl }
-
 pub accepted : (states : List ℕ) (call : Call) → accepts states call ≡ true → Acceptance states call
 unfolding accepts verdict_of
 accepted states call e =
     let full = is_put call.event && leb held (held_in states) in
-    let tests = passed (leb frames call.frame) full (cell_of states call) e in
+    let tests = passed (leb frames call.frame) BadFrame full RowFull (cell_of states call) e in
     record {
-      small = leb-false frames call.frame tests.frame;
+      small = leb-false frames call.frame tests.small;
       state = tests.state;
-      next = tests.next;
-      allowed = tests.table;
+      next = tests.verdict;
+      allowed = tests.allowed;
       known =
-          MatchResult-at_ok (λ next. next ≤ busy) (λ r. refusal_place r ≡ 0) tests.state tests.table
+          MatchResult-at_ok (λ next. next ≤ busy) (λ r. refusal_place r ≡ 0) tests.state tests.allowed
           (entries call.event (state_of states call.frame));
-      room = λ put. leb-false held (held_in states) (rw put at tests.room);
+      room = λ put. leb-false held (held_in states) (rw put at tests.calm);
     }
 
 -- and what refusal says
@@ -184,7 +165,7 @@ rejected states call e =
 
 -- A1: a refused call has no place
 placeless : (past full : Bool) (cell : Result ℕ Refusal) → MatchResult cell (λ s. s ≤ busy) (λ r. refusal_place r ≡ 0) →
-    IfErr (in_order past full cell) (λ r. refusal_place r ≡ 0)
+    IfErr (in_order past BadFrame full RowFull cell) (λ r. refusal_place r ≡ 0)
 placeless true full cell h = refl
 placeless false full (Err r) h = h
 placeless false true (Ok state) h = refl
@@ -200,7 +181,7 @@ verdict_placeless states call =
 refusal_some : (r : Refusal) → eqb (refusal_number r) 0 ≡ false
 refusal_some r = grind arith
 
-pub number_ok : {A : Type 0} (v : Result A Refusal) → eqb (number_in v) 0 ≡ is_ok v
+pub number_ok : {A : Type 0} (v : Result A Refusal) → eqb (number_of v) 0 ≡ is_ok v
 number_ok (Ok a) = refl
 number_ok (Err r) = refusal_some r
 

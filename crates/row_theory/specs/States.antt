@@ -3,7 +3,7 @@ use Rattle.std.specs.Prelude.{ℕ, ◌+◌, Bool, true, false, cond, ◌&&◌, L
 use Rattle.std.specs.Prelude.{Ok, Err, is_ok}
 use Rattle.std.specs.Result.{result_and}
 use Rattle.rules.specs.Limits.{frames, held}
-use Rattle.rules.specs.Refusals.{refusal_number}
+use Rattle.rules.specs.Refusals.{refusal_number, number_of}
 use Rattle.rules.specs.declared.refusal.Refusal.{Refusal}
 use Rattle.rules.specs.declared.refusal.Refusal.TheVariants.{BadFrame, HeldAlready, NotHeld, BusyFrame, IdleFrame, RowFull}
 use Rattle.row_theory.specs.declared.Event.{Event}
@@ -99,12 +99,8 @@ unfoldable pub accepts : List ℕ → Call → Bool
 accepts states call = is_ok (verdict_of states call)
 
 -- the refusal's number; 0 stands for "no refusal"
-abbrev pub number_in : {A : Type 0} → Result A Refusal → ℕ
-number_in (Ok a) = 0
-number_in (Err r) = refusal_number r
-
 unfoldable pub refusal_of : List ℕ → Call → ℕ
-refusal_of states call = number_in (verdict_of states call)
+refusal_of states call = number_of (verdict_of states call)
 
 -- every frame absent
 abbrev pub fresh_states : List ℕ

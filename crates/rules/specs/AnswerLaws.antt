@@ -1,5 +1,7 @@
 -- A refusal is no acceptance, and asking twice is asking once; what an answer that gives something says.
-use Rattle.std.specs.Prelude.{ℕ, ◌≡◌, refl, Result, Ok, Err}
+use Rattle.std.specs.Prelude.{ℕ, Bool, true, false, cond, ◌≡◌, refl, Result, Ok, Err, is_ok}
+use Rattle.std.specs.Result.{result_and}
+use Rattle.rules.specs.Cases.{clash}
 use Rattle.std.proofs.Common.{arith, sym}
 use Rattle.rules.specs.Refusals.{Answer, accepted, when_accepted, giving}
 use Rattle.rules.specs.declared.refusal.Refusal.{Refusal}
@@ -21,3 +23,24 @@ given (Err x) e = not_accepted e
 pub not_given : {A : Type 0} {x : Refusal} (answer : Answer) (a : A) → giving answer a ≡ Err x → answer ≡ Err x
 not_given (Ok u) a e = not_accepted (sym e)
 not_given {x = x} (Err y) a e = let same : y ≡ x = cc in rw same
+
+-- two tests about a table: the refusal of the first, then the table's, then that of the last; and if none applies what the table
+-- gives
+abbrev pub in_order : Bool → Refusal → Bool → Refusal → Result ℕ Refusal → Result ℕ Refusal
+in_order past first some last next = cond past (Err first) (result_and next (cond some (Err last) next))
+
+-- none of them stands against what is accepted
+pub record Passed (past : Bool) (first : Refusal) (some : Bool) (last : Refusal) (next : Result ℕ Refusal) : Type 0 where
+  pub state : ℕ
+  pub small : past ≡ false
+  pub allowed : next ≡ Ok state
+  pub calm : some ≡ false
+  pub verdict : in_order past first some last next ≡ Ok state
+
+pub passed : (past : Bool) (first : Refusal) (some : Bool) (last : Refusal) (next : Result ℕ Refusal)
+    → is_ok (in_order past first some last next) ≡ true → Passed past first some last next
+passed true first some last next e = clash e refl
+passed false first some last (Err r) e = clash e refl
+passed false first true last (Ok state) e = clash e refl
+passed false first false last (Ok state) e =
+    record { state = state; small = refl; allowed = refl; calm = refl; verdict = refl }

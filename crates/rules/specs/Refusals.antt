@@ -143,12 +143,12 @@ abbrev pub accepted : Answer
 accepted = Ok tt
 
 -- what the paper's words "number" and "place" are for each case of an answer; 0 stands for "no refusal"
-abbrev pub number_of : Answer → ℕ
-number_of (Ok u) = 0
+abbrev pub number_of : {A : Type 0} → Result A Refusal → ℕ
+number_of (Ok a) = 0
 number_of (Err r) = refusal_number r
 
-abbrev pub place_of : Answer → ℕ
-place_of (Ok u) = 0
+abbrev pub place_of : {A : Type 0} → Result A Refusal → ℕ
+place_of (Ok a) = 0
 place_of (Err r) = refusal_place r
 
 -- A2: of several refusals that apply the first is given, so an order of refusals is a chain of these
