@@ -1,11 +1,9 @@
 -- The test of a row under banks (BankTest) is exact: lent memory passes it exactly if fresh banks and calls give it.
 use Rattle.std.specs.Prelude.{ℕ, ◌+◌, ◌-◌, ◌*◌, ◌<◌, ◌≤◌, ◌≡◌, Bool, true, false, cond, ◌&&◌, List, [], ◌∷◌, leb}
-use Rattle.std.specs.Prelude.{ltb, eqb, length, zero, suc}
-use Rattle.std.specs.List.{list_all, range_with_len}
-use Rattle.std.proofs.Math.Bool.{and-true, and_assoc}
+use Rattle.std.specs.Prelude.{ltb, eqb, length}
 use native.Mathlib.Omega.{arith}
 use Rattle.std.proofs.Math.Path.{sym}
-use Rattle.std.proofs.Common.{◌∙◌, ap, subst, ext_get_or, add-one}
+use Rattle.std.proofs.Common.{◌∙◌, ap, subst, ext_get_or}
 use Rattle.std.proofs.Math.ListN.{get_or, get_or-eq_default}
 use borrow.Author.Tests.{eq-eqb, eqb-true, le-leb, leb-true, ltb-true, ltb-false}
 use Rattle.rules.specs.Limits.{frames, bank_frames}
@@ -203,18 +201,6 @@ banks_passed {m} {r} row passes long is =
     let sized : SizedUnder m = record { row = stands_sized (row.gives passes); gates = long } in
     let whole : r ≡ banks_sound m = unfold banks_sound in rw (← row.answer, passes) is in
     banks_tested sized whole
-
--- all banks, as code takes them one by one
-all_from : (p : ℕ → Bool) (a n m : ℕ) → a + n ≡ m → (all_below p a && list_all p (range_with_len a n)) ≡ all_below p m
-unfolding all_below
-all_from p a zero m is = let same : a ≡ m = omega arith in and-true (all_below p a) ∙ ap (all_below p) same
-all_from p a (suc n) m is =
-    sym (and_assoc (all_below p a) (p a) (list_all p (range_with_len (a + 1) n))) ∙
-    rw (add-one a) (all_from p (suc a) n m (omega arith))
-
-pub all_listed : (p : ℕ → Bool) (n : ℕ) → list_all p (range_with_len 0 n) ≡ all_below p n
-unfolding all_below
-all_listed p n = all_from p 0 n n (omega arith)
 
 -- one gate, from what is read of it
 pub gate_tested : {gates states : List ℕ} {first frame : ℕ} {fits r : Bool} →

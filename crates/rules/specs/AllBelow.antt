@@ -1,7 +1,9 @@
 -- A test of every number below a bound: what a test of lent memory is made of.
 use Prim.Native.Nat.{ℕ, zero, suc, ◌+◌, ◌<◌, ◌≤◌, zero-le}
-use Rattle.std.proofs.Common.{add-one, arith, ◌∙◌, ap}
+use Rattle.std.proofs.Common.{add-one, arith, ◌∙◌, ap, sym}
+use Rattle.std.proofs.Math.Bool.{and-true, and_assoc}
 use Rattle.std.specs.Prelude.{◌≡◌, Bool, true, false, ◌&&◌, eqb}
+use Rattle.std.specs.List.{list_all, range_with_len}
 use Rattle.std.proofs.Math.Path.{refl}
 use borrow.Author.Tests.{eqb-true, eqb-false}
 use Rattle.rules.specs.Cases.{by_cases, clash, and_left, and_right}
@@ -48,3 +50,15 @@ all_also {p} {n} {i} all below one both = record { most = omega arith; is = rw (
 
 pub all_done : {p : ℕ → Bool} {n i : ℕ} {r : Bool} → AllTo p n i r → n ≤ i → r ≡ all_below p n
 all_done {p} {n} {i} all ended = let same : i ≡ n = omega (arith, all.most) in all.is ∙ ap (all_below p) same
+
+-- the test as an iterator goes through it, which stops where one fails
+all_from : (p : ℕ → Bool) (a n m : ℕ) → a + n ≡ m → (all_below p a && list_all p (range_with_len a n)) ≡ all_below p m
+unfolding all_below
+all_from p a zero m is = let same : a ≡ m = omega arith in and-true (all_below p a) ∙ ap (all_below p) same
+all_from p a (suc n) m is =
+    sym (and_assoc (all_below p a) (p a) (list_all p (range_with_len (a + 1) n))) ∙
+    rw (add-one a) (all_from p (suc a) n m (omega arith))
+
+pub all_listed : (p : ℕ → Bool) (n : ℕ) → list_all p (range_with_len 0 n) ≡ all_below p n
+unfolding all_below
+all_listed p n = all_from p 0 n n (omega arith)

@@ -50,13 +50,11 @@ fn place_stands(
     }
 }
 
-#[tactic(auto, using(rules::specs::AllBelow::all_next))]
+// Place by place, with a way out: a session whose first place is bad is told at once.
 fn places_stand(used: usize, places: &[u32; CAPACITIES], counts: &[u16; PAGES as usize]) -> bool
     ensures { result ≡ all_below («place_stands_of» used places.now counts.now) capacities }
 {
-    all_pass(CAPACITIES as u8, |i| {
-        place_stands(used, places, counts, usize::from(i))
-    })
+    (0..CAPACITIES).all(|i| place_stands(used, places, counts, i))
 }
 
 // How often any page was counted; `all_depths` says why it has a line of its own.

@@ -3,7 +3,7 @@ use Rattle.std.proofs.Common.{rules, ◌∙◌, refl}
 use Rattle.bank_theory.specs.BankTest.{bank_sound}
 use Rattle.std.proofs.lemmas.Iterator.Search.{all_from_yields_List}
 use Rattle.std.proofs.lemmas.Iterator.{YieldsList-from_range}
-use Rattle.bank_theory.proofs.BankTestLaws.{all_listed}
+use Rattle.rules.specs.AllBelow.{all_listed}
 use Rattle.banks.proofs.testing.gates_sound.Goals as goal
 
 pub returns : goal.returns
