@@ -1,11 +1,12 @@
 // The hits of a trace under the three policies, counted, and read off at a capacity.
-ghost use Rattle.std.specs.Prelude.{◌≡◌};
+ghost use Rattle.std.specs.Prelude.{◌≡◌, ◌+◌, ◌≤◌, length};
 ghost use Rattle.rules.specs.Policies.{policy_number};
 ghost use Rattle.file_theory.specs.RoundTrip.{GoodReferences};
-ghost use Rattle.report_theory.specs.Lines.{Holds, hits_in, table_line};
+ghost use Rattle.report_theory.specs.Lines.{Holds, hits_in, longest_line, table_line};
+ghost use Rattle.report_theory.specs.Buffer.{Wrote};
 ghost use Rattle.report_text.specs.Tables.{AllHold};
 
-use crate::text::{LineText, line};
+use crate::text::write_line;
 use rules::{CAPACITIES, Policy};
 
 // Entry C - 1 of a table is a policy's hits at C frames (rule A4).
@@ -33,16 +34,16 @@ impl Hits {
         hits
     }
 
-    // The line of a capacity.
-    pub(crate) fn line(&self, capacity: u16) -> LineText
-        ensures { result.bytes ≡ table_line self.now.lru self.now.lfu self.now.opt capacity }
+    // The line of a capacity, which takes no more room than the longest.
+    pub(crate) fn write_line(&self, out: &mut [u8], at: usize, capacity: u16) -> usize
+        requires { at + longest_line ≤ length out.old }
+        ensures line { Wrote at (table_line self.now.lru self.now.lfu self.now.opt capacity) out.old result out.new }
+        ensures room { result ≤ at + longest_line }
     {
-        line(
-            capacity,
-            entry(&self.lru, capacity),
-            entry(&self.lfu, capacity),
-            entry(&self.opt, capacity),
-        )
+        let lru = entry(&self.lru, capacity);
+        let lfu = entry(&self.lfu, capacity);
+        let opt = entry(&self.opt, capacity);
+        write_line(out, at, u32::from(capacity), lru, lfu, opt)
     }
 }
 

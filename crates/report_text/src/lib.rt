@@ -14,7 +14,7 @@ ghost use Rattle.report_theory.specs.Input.{InputPrinted};
 
 use hits::Hits;
 use rules::{CAPACITIES, REFERENCES};
-use text::{LINE, ending, put, refused_line};
+use text::{LINE, put, write_ending, write_refused};
 
 // The bytes of an input that are looked at: two counts, as many values as the limits allow, and one byte more.
 pub const INPUT: usize = 5 + 2 * CAPACITIES + 2 * REFERENCES;
@@ -32,9 +32,9 @@ fn write_trace(out: &mut [u8; REPORT], capacities: &[u16], references: &[u16]) -
     let hits = Hits::of(references);
     let mut at = put(out, 0, "capacity lru lfu opt\n");
     for &capacity in capacities {
-        at = put(out, at, &hits.line(capacity));
+        at = hits.write_line(out, at, capacity);
     }
-    put(out, at, &ending(references.len() as u32))
+    write_ending(out, at, references.len() as u32)
 }
 
 // The report of a file, any bytes at all: how many bytes of the buffer it takes. What stood behind them stays.
@@ -49,7 +49,7 @@ pub fn report(file: &[u8], out: &mut [u8; REPORT]) -> usize
             &capacities[..counts.capacities],
             &references[..counts.references],
         ),
-        Err(refusal) => put(out, 0, &refused_line(refusal)),
+        Err(refusal) => write_refused(out, refusal),
     }
 }
 

@@ -11,6 +11,10 @@ use Rattle.report_theory.specs.Decimals.{decimal_short}
 abbrev pub number_then : ℕ → ℕ → List ℕ
 number_then n behind = decimal n ++ (behind ∷ [])
 
+-- whatever that byte is
+pub number_long : (n behind : ℕ) → length (number_then n behind) ≡ length (decimal n) + 1
+number_long n behind = length-append (decimal n) (behind ∷ [])
+
 pub line_numbers : (k a b c : ℕ) → line k a b c ≡ number_then k 32 ++ number_then a 32 ++ number_then b 32 ++ number_then c 10
 unfolding line
 line_numbers k a b c = simp append_assoc

@@ -1,5 +1,4 @@
 -- `report_text::report`: what the reader's answer tells picks the report that the definition has.
-use Rattle.std.proofs.Common.{◌∙◌}
 use Rattle.file_theory.specs.Callers.{accepted_says, accepted_handed, refused_says}
 use Rattle.report_theory.specs.Outcomes.{report_refused, report_accepted}
 use Rattle.report_theory.specs.Buffer.{printed}
@@ -13,8 +12,7 @@ pub returns-in-Err : goal.returns-in-Err
 returns-in-Err c =
     let file = c.args.file.now in
     let told = refused_says file c.read.ensures c.in-Err.refusal c.in-Err.is in
-    rw (report_refused file c.in-Err.refusal told)
-    (printed (rw (c.deref.ensures.0 ∙ c.refused_line.ensures) at c.put.ensures))
+    rw (report_refused file c.in-Err.refusal told) (printed c.write_refused.ensures)
 
 pub returns-in-Ok : goal.returns-in-Ok
 returns-in-Ok c =

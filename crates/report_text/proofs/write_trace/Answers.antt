@@ -1,5 +1,5 @@
 -- `write_trace`: each line goes behind those before it; what is put then is the report of the trace.
-use Rattle.std.proofs.Common.{ℕ, List, length, take_all, ap, ◌∙◌, add-one, subst, arith}
+use Rattle.std.proofs.Common.{ℕ, List, length, take_all, add-one, subst, arith}
 use Rattle.file_theory.specs.Decoding.{Trace}
 use Rattle.report_theory.specs.Buffer.{Wrote, then}
 use Rattle.report_theory.specs.Lines.{ending_short, table_lines, lines_more}
@@ -16,16 +16,14 @@ loop-capacity-preserved c =
     let i = c.loop-capacity.capacity-index in
     let so_far = c.loop-capacity.invariant in
     let more = lines_more h.lru h.lfu h.opt c.args.capacities.now i (omega arith) in
-    let line = rw (c.deref.ensures.0 ∙ c.line.ensures) at c.put-at-in-loop-capacity.ensures in
     record {
-      put = rw (add-one i, more) (then (omega (arith, so_far.put.place, so_far.room)) so_far.put line);
-      room = omega (arith, so_far.room, c.put-at-in-loop-capacity.ensures.place, c.deref.ensures.1);
+      put = rw (add-one i, more) (then (omega (arith, so_far.put.place, so_far.room)) so_far.put c.write_line-at.ensures.line);
+      room = omega (arith, so_far.room, c.write_line-at.ensures.room);
     }
 
-pub put-requires : goal.put-requires
-put-requires c =
-    let last = ap length (c.deref-2.ensures.0 ∙ c.ending.ensures) in
-    omega (arith, c.loop-capacity.invariant.room, last, ending_short (length c.args.references.now) (omega arith))
+pub write_ending-requires : goal.write_ending-requires
+write_ending-requires c =
+    omega (arith, c.loop-capacity.invariant.room, ending_short (length c.args.references.now) (omega arith))
 
 pub returns : goal.returns
 returns c =
@@ -34,7 +32,6 @@ returns c =
     let t : Trace = record { caps = a.capacities.now; refs = a.references.now } in
     let so_far = c.loop-capacity.invariant in
     let lines = rw (take_all c.loop-capacity.capacity-index a.capacities.now (omega arith)) at so_far.put in
-    let last = rw (c.deref-2.ensures.0 ∙ c.ending.ensures) at c.put.ensures in
-    subst (λ (text : List ℕ). Wrote 0 text a.out.now c.put.result c.put.new.out)
+    subst (λ (text : List ℕ). Wrote 0 text a.out.now c.write_ending.result c.write_ending.new.out)
     (counted_report t h.lru h.lfu h.opt c.requires c.of-hits.ensures)
-    (then (omega (arith, so_far.put.place, so_far.room)) lines last)
+    (then (omega (arith, so_far.put.place, so_far.room)) lines c.write_ending.ensures)
