@@ -27,7 +27,8 @@ pub fn read_references(part: &[u8], table: &mut [u16; REFERENCES]) -> Result<usi
 
 // A whole trace file, any bytes at all: its capacities and references in the two tables, which C lends, and their counts as
 // the answer, or a refusal and the tables as they were (rules F4, A3). The capacities are written last: only then is
-// all checked.
+// all checked. Inlined, since a call of its own took half as long again where the first bytes are refused.
+#[inline]
 pub fn read(
     file: &[u8],
     capacities: &mut [u16; CAPACITIES],

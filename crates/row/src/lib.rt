@@ -26,7 +26,9 @@ pub use testing::sound;
 pub const GIVABLE: u8 = 1;
 
 // One of the five calls: put, touch, start, end or drop of a frame (rules W2 to W6, O6). The answer is the slots examined by
-// squeezing; a refusal examines none, and leaves the row as it was.
+// squeezing; a refusal examines none, and leaves the row as it was. It is part of each exported call, which knows its event: as a
+// function of its own it took 176 bytes of stack where these calls take 64 to 128.
+#[inline(always)]
 pub fn call(
     slots: &mut PerSlot,
     places: &mut PerFrame,
