@@ -1,8 +1,8 @@
 -- What the checks' answers say of the orders of refusals that they stand in.
-use Rattle.std.specs.Prelude.{ℕ, suc, ◌+◌, ◌<◌, ◌≡◌, refl, List, [], ◌∷◌, leb, ltb}
+use Rattle.std.specs.Prelude.{ℕ, suc, ◌+◌, ◌<◌, ◌≤◌, ◌≡◌, refl, List, [], ◌∷◌, leb, ltb, length, take, drop}
 use Rattle.std.specs.Prelude.{Err, Option, Some, None, unwrap_or}
 use Rattle.std.specs.List.{position, position_from}
-use Rattle.std.proofs.Common.{arith, leb-true, leb-false, ltb-false, sym, ◌∙◌, ap, add-one}
+use Rattle.std.proofs.Common.{arith, leb-true, leb-false, ltb-false, sym, ◌∙◌, ap, add-one, take_all}
 use Rattle.std.proofs.lemmas.Iterator.Adapters.{position_from-zero}
 use Rattle.rules.specs.Limits.{policies, references, is_capacity, capacities, pages}
 use Rattle.rules.specs.Refusals.{Answer, accepted, first_bad_page}
@@ -95,3 +95,8 @@ module _ (trace : List ℕ) where
 
   pub good_all : position (leb pages) trace ≡ None → accepted ≡ first_bad_page 0 trace accepted
   good_all e = sym (good_from 0 trace (sym (position_from-zero (leb pages) trace) ∙ e))
+
+  -- a part that is the whole trace: the code hands over all of it, and with this law a part that is all of it proves too, so
+  -- that the edit `bad_page_found_later` is refused for what it leaves out
+  pub whole_part : (n m : ℕ) → n ≡ 0 → length trace ≤ m → take m (drop n trace) ≡ trace
+  whole_part n m start end = rw start (take_all m trace end)

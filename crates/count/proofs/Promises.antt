@@ -89,9 +89,12 @@ module _ {trace : List ℕ} {policy k t : ℕ} {r : Listing} (p : Showing trace 
       let long : r.length ≡ length (list_shown policy k trace t) = rw listing_is in
       rw listing_is (zero_past (list_shown policy k trace t) i (omega (arith, long)))
 
+  shown_is : pages_shown r.length r.places ≡ list_shown policy k trace t
+  shown_is = rw listing_is (shown_back (list_shown policy k trace t))
+
   is_list : pages_shown r.length r.places ≡ list_after (policy_of policy) k (reverse (take t trace)) (drop t trace)
   unfolding list_shown list_of
-  is_list = rw (listing_is, shown_back (list_shown policy k trace t), accepted_is)
+  is_list = rw (shown_is, accepted_is)
 
   pub listed_most : r.length ≤ k
   unfolding list_shown list_of

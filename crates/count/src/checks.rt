@@ -29,6 +29,7 @@ fn first_bad(trace: &[u16]) -> Option<usize>
 }
 
 // Refusal 3, at the first reference that is no page.
+#[tactic(auto, using(crate::proofs::CheckLaws::bad_at, crate::proofs::CheckLaws::good_all, crate::proofs::CheckLaws::whole_part))]
 pub(crate) fn all_pages(trace: &[u16]) -> Result<(), Refusal>
     ensures { result ≡ first_bad_page 0 trace.now accepted }
 {

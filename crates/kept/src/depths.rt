@@ -10,6 +10,7 @@ use rules::CAPACITIES;
 pub const DEPTHS: usize = CAPACITIES + 1;
 
 // How many references had a depth from 1 to `c`.
+#[tactic(auto, using(crate::specs::Tally::up_to_sum))]
 pub fn sum(depths: &[u32; DEPTHS], c: usize) -> usize
     ensures { result ≡ up_to depths.now (min c capacities) }
 {

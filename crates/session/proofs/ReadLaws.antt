@@ -79,6 +79,10 @@ module _ {s : Session} {depths : List ℕ} {c : ℕ} {r : Result ℕ Refusal} wh
             e ∙ rw v.k_is (same_asked k c (misses_in s depths c) (misses_now policy c calls) (misses_in_law v d c));
       }
 
+-- where hits are answered, they are the sum of the depths
+pub hits_found : {s : Session} {depths : List ℕ} {c h : ℕ} → HitsRead s depths c (Ok h) → h ≡ hits_in depths c
+hits_found {s} {depths} {c} {h} hits = sym (given (capacity_answer s.k c) (sym hits.answered)).1
+
 -- the misses are what the hits leave of the references
 pub misses_from_hits : {s : Session} {depths : List ℕ} {c h m : ℕ} → HitsRead s depths c (Ok h) → m ≡ s.references - h
     → MissesRead s depths c (Ok m)

@@ -43,6 +43,7 @@ fn carry_all(list: &mut [u32], old: u32, first: u32) -> ControlFlow<usize, u32>
 
 // What is done at a place: the old entry gives it to the carried one; of any other the larger stays, and the smaller is
 // carried on.
+#[tactic(auto, using(crate::proofs::Walk::higher_is, crate::proofs::Walk::lower_is))]
 fn at_place(list: &mut [u32], i: usize, old: u32, carried: u32) -> ControlFlow<usize, u32>
     requires { i < length list.old }
     ensures { AtPlace old carried i list.old list.new result }

@@ -1,5 +1,5 @@
 -- One sum more is written at each capacity; past the last one the table is as it was.
-use Rattle.std.proofs.Common.{refl, arith}
+use Rattle.std.proofs.Common.{refl, arith, ap, ◌∙◌, set}
 use Rattle.kept.specs.Tally.{up_to}
 use Rattle.kept.specs.Filled.{word_step, sums_start, sums_next, sums_end}
 use Rattle.kept.proofs.depths.fill.Goals as goal
@@ -11,8 +11,12 @@ loop-c-init c = (sums_start _ _, refl)
 pub loop-c-preserved : goal.loop-c-preserved
 loop-c-preserved c =
     let depths = c.args.depths.now in
-    let total = word_step depths c.loop-c.c c.loop-c.total c.loop-c.invariant.1 in
-    (rw total (sums_next depths c.args.hits.now c.loop-c.hits c.loop-c.c (omega arith) c.loop-c.invariant.0), total)
+    let at = c.loop-c.c in
+    let total = word_step depths at c.loop-c.total c.loop-c.invariant.1 in (
+      ap (set c.loop-c.hits at) total
+          ∙ sums_next depths c.args.hits.now c.loop-c.hits at (omega arith) c.loop-c.invariant.0,
+      total,
+    )
 
 pub returns : goal.returns
 returns c =
