@@ -35,6 +35,7 @@ impl Hits {
     }
 
     // The line of a capacity, which takes no more room than the longest.
+    #[tactic(auto, using(report_theory::specs::Lines::line_short))]
     pub(crate) fn write_line(&self, out: &mut [u8], at: usize, capacity: u16) -> usize
         requires { at + longest_line ≤ length out.old }
         ensures line { Wrote at (table_line self.now.lru self.now.lfu self.now.opt capacity) out.old result out.new }

@@ -1,6 +1,6 @@
-// The texts of a report, written into the lent buffer from a place on: each function answers the place behind what it wrote. A line
-// that was a text of its own, by the kit's arrayvec and itoa, and was put there then, took three and a half times the instructions;
-// and these digits rest on no library but std.
+// The texts of a report, written into the lent buffer from a place on: each function answers the place behind what it wrote. A
+// line that was a text of its own, by the kit's arrayvec and itoa, and was put there then, took three and a half times the
+// instructions; and these digits rest on no library but std.
 ghost use Rattle.std.specs.Prelude.{◌≡◌, [], ◌∷◌, ◌+◌, ◌≤◌, ◌<◌, length};
 ghost use Rattle.rules.specs.Refusals.{refusal_number};
 ghost use Rattle.report_theory.specs.Text.{decimal};
